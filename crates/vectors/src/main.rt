@@ -1,0 +1,29 @@
+// Replays a fixed list of vectors from standard input: each line is written again, with the answer behind it.
+// A line is words with one space between; a line that begins with '#' is a comment. Bytes are hexadecimal, '-' stands for none.
+//
+//     number MOST BYTES            the number, the bytes it took, and how it is written
+//     text LEAST MOST BYTES        where the text starts, its length, the bytes it took, and how it is written
+//     time BYTES                   the seconds and nanoseconds, the bytes it took, and how it is written
+//     compare BYTES START LENGTH NAME     a part of the bytes against a name
+mod answer;
+mod line;
+mod show;
+
+use answer::answer;
+use libc::STDIN_FILENO;
+use line::find;
+
+fn main() {
+    let mut input = [0u8; 65536];
+    let length = io::read_full(STDIN_FILENO, &mut input);
+    replay(&input[..length]);
+}
+
+fn replay(list: &[u8]) {
+    let mut at = 0;
+    while at < list.len() {
+        let end = find(list, at, b'\n');
+        answer(&list[at..end]);
+        at = end + 1;
+    }
+}
