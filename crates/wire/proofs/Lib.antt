@@ -5,4 +5,4 @@ pub mod Comparing
 pub mod Signs
 pub mod Puts
 pub mod RoundTrip
-pub mod Examples
+mod Examples

@@ -3,10 +3,6 @@ use Prim.Native.Nat.{_+_, _-_, _≤_}
 use lib.ListN.{length}
 use Rattle.vectors.proofs.replay.Statement.{statement}
 use Rattle.vectors.proofs.replay.Tie as tie
-use Rattle.vectors.proofs.replay.Reads as reads
-use Rattle.vectors.proofs.replay.Lts as lts
-use Rattle.vectors.proofs.answer.answer.Reads as answer-reads
-use Rattle.vectors.proofs.line.find.Reads as find-reads
 
 abbrev Inv-loop : tie.InvT-loop
 Inv-loop list at₀ at = at ≤ length list + 1

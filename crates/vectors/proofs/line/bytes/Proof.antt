@@ -6,9 +6,6 @@ use lib.ListN.{length}
 use mathlib.Core.Path.{_≡_}
 use Rattle.vectors.proofs.line.bytes.Statement.{statement}
 use Rattle.vectors.proofs.line.bytes.Tie as tie
-use Rattle.vectors.proofs.line.bytes.Reads as reads
-use Rattle.vectors.proofs.line.bytes.Lts as lts
-use Rattle.vectors.proofs.line.digit.Reads as digit-reads
 
 abbrev Inv-loop : tie.InvT-loop
 Inv-loop word out₀ count₀ i₀ out count i = (length out ≡ length out₀) × (count ≤ length out) × (i ≤ length word + 1)

@@ -3,9 +3,6 @@ use Prim.Native.Nat.{_+_, _-_, _≤_, _<_}
 use lib.ListN.{length}
 use Rattle.vectors.proofs.line.decimal.Statement.{statement}
 use Rattle.vectors.proofs.line.decimal.Tie as tie
-use Rattle.vectors.proofs.line.decimal.Reads as reads
-use Rattle.vectors.proofs.line.decimal.Lts as lts
-use Rattle.vectors.proofs.line.digit.Reads as digit-reads
 
 abbrev Inv-loop : tie.InvT-loop
 Inv-loop word value₀ i₀ value i = i ≤ length word

@@ -3,8 +3,6 @@ use Prim.Native.Nat.{_+_, _-_, _≤_, _<_}
 use lib.ListN.{length}
 use Rattle.vectors.proofs.line.find.Statement.{statement}
 use Rattle.vectors.proofs.line.find.Tie as tie
-use Rattle.vectors.proofs.line.find.Reads as reads
-use Rattle.vectors.proofs.line.find.Lts as lts
 
 abbrev Inv-loop : tie.InvT-loop
 Inv-loop s at byte i₀ i = (at ≤ i) × (i ≤ length s)

@@ -5,9 +5,6 @@ use Prim.Native.Nat.{_≤_}
 use lib.ListN.{length}
 use Rattle.vectors.proofs.line.word.Statement.{statement}
 use Rattle.vectors.proofs.line.word.Tie as tie
-use Rattle.vectors.proofs.line.word.Reads as reads
-use Rattle.vectors.proofs.line.word.Lts as lts
-use Rattle.vectors.proofs.line.find.Reads as find-reads
 
 abbrev Inv-loop : tie.InvT-loop
 Inv-loop line number start₀ left₀ start left = start ≤ length line

@@ -3,9 +3,6 @@ use Prim.Native.Nat.{_+_, _-_, _≤_, _<_}
 use lib.ListN.{length}
 use Rattle.vectors.proofs.show.hex.Statement.{statement}
 use Rattle.vectors.proofs.show.hex.Tie as tie
-use Rattle.vectors.proofs.show.hex.Reads as reads
-use Rattle.vectors.proofs.show.hex.Lts as lts
-use Rattle.vectors.proofs.show.nibble.Reads as nibble-reads
 
 abbrev Inv-loop : tie.InvT-loop
 Inv-loop bytes i₀ i = i ≤ length bytes

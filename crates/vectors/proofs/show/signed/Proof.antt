@@ -3,10 +3,6 @@ use Rattle.wire.proofs.Signs.{negative-fits, negative-cast, negative-double, po
 use borrow.Author.Needs.{needs}
 use Rattle.vectors.proofs.show.signed.Statement.{statement}
 use Rattle.vectors.proofs.show.signed.Tie as tie
-use Rattle.vectors.proofs.show.signed.Reads as reads
-use Rattle.vectors.proofs.show.signed.Lts as lts
-use Rattle.vectors.proofs.show.number.Reads as number-reads
-use Rattle.vectors.proofs.show.text.Reads as text-reads
 
 slice-aggregate-text : tie.Need-slice-aggregate-text
 slice-aggregate-text c = search needs

@@ -3,9 +3,6 @@ use mathlib.Core.Path.{_∙_}
 use borrow.Author.Needs.{needs}
 use Rattle.wire.proofs.number.judged.Statement.{statement}
 use Rattle.wire.proofs.number.judged.Tie as tie
-use Rattle.wire.proofs.number.judged.Reads as reads
-use Rattle.wire.proofs.number.judged.Lts as lts
-use Rattle.wire.proofs.number.no_number.Reads as no-number-reads
 
 no-number-requires : tie.Need-no-number-requires
 no-number-requires c κs = search needs

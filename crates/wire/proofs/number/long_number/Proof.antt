@@ -5,12 +5,6 @@ use Prim.Native.Nat.{_-_}
 use Rattle.wire.specs.Number.{tenth}
 use Rattle.wire.proofs.number.long_number.Statement.{statement}
 use Rattle.wire.proofs.number.long_number.Tie as tie
-use Rattle.wire.proofs.number.long_number.Reads as reads
-use Rattle.wire.proofs.number.long_number.Lts as lts
-use Rattle.wire.proofs.number.last_group.Reads as last-group-reads
-use Rattle.wire.proofs.number.no_number.Reads as no-number-reads
-use Rattle.wire.proofs.number.tenth_group.Reads as tenth-group-reads
-use Rattle.wire.proofs.number.wide.Reads as wide-reads
 
 abbrev Inv-loop : tie.InvT-loop
 Inv-loop s at low most sum₀ weight₀ i₀ sum weight i = Far s at low most i weight sum

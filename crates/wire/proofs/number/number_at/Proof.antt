@@ -3,12 +3,6 @@ use Rattle.wire.proofs.Groups.{first-end, first-only, first-long}
 use borrow.Author.Needs.{needs}
 use Rattle.wire.proofs.number.number_at.Statement.{statement}
 use Rattle.wire.proofs.number.number_at.Tie as tie
-use Rattle.wire.proofs.number.number_at.Reads as reads
-use Rattle.wire.proofs.number.number_at.Lts as lts
-use Rattle.wire.proofs.number.judged.Reads as judged-reads
-use Rattle.wire.proofs.number.long_number.Reads as long-number-reads
-use Rattle.wire.proofs.number.no_number.Reads as no-number-reads
-use Rattle.wire.proofs.number.wide.Reads as wide-reads
 
 no-number-requires : tie.Need-no-number-requires
 no-number-requires c κs = search needs

@@ -4,9 +4,6 @@ use Rattle.wire.specs.Number.{numberBytes}
 use Rattle.wire.proofs.Puts.{Left, left-all, left-digit, left-last, put-length}
 use Rattle.wire.proofs.number.put_number.Statement.{statement}
 use Rattle.wire.proofs.number.put_number.Tie as tie
-use Rattle.wire.proofs.number.put_number.Reads as reads
-use Rattle.wire.proofs.number.put_number.Lts as lts
-use Rattle.wire.proofs.put.put_byte.Reads as put-byte-reads
 
 abbrev Inv-loop : tie.InvT-loop
 Inv-loop buf₀ at number i₀ rest₀ buf i rest = Left buf₀ at (numberBytes number) buf i (numberBytes rest)

@@ -3,10 +3,6 @@ use Rattle.wire.proofs.Groups.{answer-none}
 use borrow.Author.Needs.{needs}
 use Rattle.wire.proofs.number.read_number.Statement.{statement}
 use Rattle.wire.proofs.number.read_number.Tie as tie
-use Rattle.wire.proofs.number.read_number.Reads as reads
-use Rattle.wire.proofs.number.read_number.Lts as lts
-use Rattle.wire.proofs.number.no_number.Reads as no-number-reads
-use Rattle.wire.proofs.number.number_at.Reads as number-at-reads
 
 enum-known-at : tie.Need-enum-known-at
 enum-known-at c = search needs

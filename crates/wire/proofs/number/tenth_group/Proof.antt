@@ -3,10 +3,6 @@ use Rattle.wire.proofs.Groups.{tenth-end, tenth-one, tenth-other}
 use borrow.Author.Needs.{needs}
 use Rattle.wire.proofs.number.tenth_group.Statement.{statement}
 use Rattle.wire.proofs.number.tenth_group.Tie as tie
-use Rattle.wire.proofs.number.tenth_group.Reads as reads
-use Rattle.wire.proofs.number.tenth_group.Lts as lts
-use Rattle.wire.proofs.number.judged.Reads as judged-reads
-use Rattle.wire.proofs.number.no_number.Reads as no-number-reads
 
 no-number-requires : tie.Need-no-number-requires
 no-number-requires c κs = search needs

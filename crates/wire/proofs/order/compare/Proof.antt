@@ -5,8 +5,6 @@ use lib.ListN.{length}
 use Rattle.wire.proofs.Comparing.{Agree, agree-none, agree-more, less, greater, longer, shorter, equal}
 use Rattle.wire.proofs.order.compare.Statement.{statement}
 use Rattle.wire.proofs.order.compare.Tie as tie
-use Rattle.wire.proofs.order.compare.Reads as reads
-use Rattle.wire.proofs.order.compare.Lts as lts
 
 abbrev Inv-loop : tie.InvT-loop
 Inv-loop a b i₀ i = Agree a b i

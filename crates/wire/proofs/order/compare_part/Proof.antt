@@ -2,10 +2,6 @@ use mathlib.Core.Path.{_∙_}
 use borrow.Author.Needs.{needs}
 use Rattle.wire.proofs.order.compare_part.Statement.{statement}
 use Rattle.wire.proofs.order.compare_part.Tie as tie
-use Rattle.wire.proofs.order.compare_part.Reads as reads
-use Rattle.wire.proofs.order.compare_part.Lts as lts
-use Rattle.wire.proofs.order.compare.Reads as compare-reads
-use Rattle.wire.proofs.part.part.Reads as part-reads
 
 part-requires : tie.Need-part-requires
 part-requires c κs = search needs

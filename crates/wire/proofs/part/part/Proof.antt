@@ -4,8 +4,6 @@ use Rattle.wire.proofs.Readers.{part-past, part-cut}
 use borrow.Author.Needs.{needs}
 use Rattle.wire.proofs.part.part.Statement.{statement}
 use Rattle.wire.proofs.part.part.Tie as tie
-use Rattle.wire.proofs.part.part.Reads as reads
-use Rattle.wire.proofs.part.part.Lts as lts
 
 sub-result : tie.Need-sub-result
 sub-result c = search needs

@@ -4,9 +4,6 @@ use Rattle.wire.proofs.Puts.{put-one, put-out, put-length}
 use borrow.Author.Needs.{needs}
 use Rattle.wire.proofs.put.put_byte.Statement.{statement}
 use Rattle.wire.proofs.put.put_byte.Tie as tie
-use Rattle.wire.proofs.put.put_byte.Reads as reads
-use Rattle.wire.proofs.put.put_byte.Lts as lts
-use Rattle.wire.proofs.put.advance.Reads as advance-reads
 
 slice-write-buf : tie.Need-slice-write-buf
 slice-write-buf c = search needs

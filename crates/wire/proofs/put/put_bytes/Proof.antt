@@ -4,10 +4,6 @@ use Prim.Native.Nat.{_-_}
 use Rattle.wire.proofs.Puts.{Copied, copied-none, copied-length, copied-more, copied-all, put-length}
 use Rattle.wire.proofs.put.put_bytes.Statement.{statement}
 use Rattle.wire.proofs.put.put_bytes.Tie as tie
-use Rattle.wire.proofs.put.put_bytes.Reads as reads
-use Rattle.wire.proofs.put.put_bytes.Lts as lts
-use Rattle.wire.proofs.put.advance.Reads as advance-reads
-use Rattle.wire.proofs.put.fitting.Reads as fitting-reads
 
 abbrev Inv-loop : tie.InvT-loop
 Inv-loop buf₀ at bytes count i₀ buf i = Copied buf₀ at bytes buf i

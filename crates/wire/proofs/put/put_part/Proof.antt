@@ -1,10 +1,6 @@
 use borrow.Author.Needs.{needs}
 use Rattle.wire.proofs.put.put_part.Statement.{statement}
 use Rattle.wire.proofs.put.put_part.Tie as tie
-use Rattle.wire.proofs.put.put_part.Reads as reads
-use Rattle.wire.proofs.put.put_part.Lts as lts
-use Rattle.wire.proofs.part.part.Reads as part-reads
-use Rattle.wire.proofs.put.put_bytes.Reads as put-bytes-reads
 
 part-requires : tie.Need-part-requires
 part-requires c κs = search needs

@@ -2,10 +2,6 @@ use Rattle.wire.proofs.Puts.{put-append}
 use borrow.Author.Needs.{needs}
 use Rattle.wire.proofs.text.put_text.Statement.{statement}
 use Rattle.wire.proofs.text.put_text.Tie as tie
-use Rattle.wire.proofs.text.put_text.Reads as reads
-use Rattle.wire.proofs.text.put_text.Lts as lts
-use Rattle.wire.proofs.number.put_number.Reads as put-number-reads
-use Rattle.wire.proofs.put.put_bytes.Reads as put-bytes-reads
 
 put-number-requires : tie.Need-put-number-requires
 put-number-requires c κs = search needs

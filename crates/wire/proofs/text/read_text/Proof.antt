@@ -3,10 +3,6 @@ use Rattle.wire.proofs.Readers.{read-in, text-small, text-ended, text-w
 use borrow.Author.Needs.{needs}
 use Rattle.wire.proofs.text.read_text.Statement.{statement}
 use Rattle.wire.proofs.text.read_text.Tie as tie
-use Rattle.wire.proofs.text.read_text.Reads as reads
-use Rattle.wire.proofs.text.read_text.Lts as lts
-use Rattle.wire.proofs.number.read_number.Reads as read-number-reads
-use Rattle.wire.proofs.text.no_text.Reads as no-text-reads
 
 read-number-requires : tie.Need-read-number-requires
 read-number-requires c κs = search needs

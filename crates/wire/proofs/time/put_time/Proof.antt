@@ -5,10 +5,6 @@ use Rattle.wire.specs.Time.{time}
 use borrow.Author.Needs.{needs}
 use Rattle.wire.proofs.time.put_time.Statement.{statement}
 use Rattle.wire.proofs.time.put_time.Tie as tie
-use Rattle.wire.proofs.time.put_time.Reads as reads
-use Rattle.wire.proofs.time.put_time.Lts as lts
-use Rattle.wire.proofs.number.put_number.Reads as put-number-reads
-use Rattle.wire.proofs.time.zigzag.Reads as zigzag-reads
 
 zigzag-requires : tie.Need-zigzag-requires
 zigzag-requires c κs = search needs

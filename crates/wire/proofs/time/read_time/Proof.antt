@@ -5,10 +5,6 @@ use Rattle.wire.proofs.Readers.{number-most, time-whole, time-stop}
 use borrow.Author.Needs.{needs}
 use Rattle.wire.proofs.time.read_time.Statement.{statement}
 use Rattle.wire.proofs.time.read_time.Tie as tie
-use Rattle.wire.proofs.time.read_time.Reads as reads
-use Rattle.wire.proofs.time.read_time.Lts as lts
-use Rattle.wire.proofs.number.read_number.Reads as read-number-reads
-use Rattle.wire.proofs.time.unzigzag.Reads as unzigzag-reads
 
 read-number-requires : tie.Need-read-number-requires
 read-number-requires c κs = search needs

@@ -2,8 +2,6 @@ use Rattle.wire.proofs.Signs.{even-signed, odd-fits, odd-signed}
 use borrow.Author.Needs.{needs}
 use Rattle.wire.proofs.time.unzigzag.Statement.{statement}
 use Rattle.wire.proofs.time.unzigzag.Tie as tie
-use Rattle.wire.proofs.time.unzigzag.Reads as reads
-use Rattle.wire.proofs.time.unzigzag.Lts as lts
 
 cast-result : tie.Need-cast-result
 cast-result c = search needs

@@ -2,8 +2,6 @@ use borrow.Author.Needs.{needs}
 use Rattle.wire.proofs.Signs.{negative-fits, negative-cast, negative-double, negative-odd, negative-zigzag, positive-cast, positive-double, positive-zigzag}
 use Rattle.wire.proofs.time.zigzag.Statement.{statement}
 use Rattle.wire.proofs.time.zigzag.Tie as tie
-use Rattle.wire.proofs.time.zigzag.Reads as reads
-use Rattle.wire.proofs.time.zigzag.Lts as lts
 
 sub-result : tie.Need-sub-result
 sub-result c = negative-fits _ (c .before .fits .signed) (c .if1 .taken)
