@@ -1,0 +1,4 @@
+mod Examples
+pub mod Passing
+pub mod Names
+pub mod Constructs
