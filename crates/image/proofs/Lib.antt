@@ -2,3 +2,4 @@ mod Examples
 pub mod Passing
 pub mod Names
 pub mod Constructs
+pub mod Inodes

@@ -8,19 +8,20 @@ use Prim.Native.Nat.{ℕ, zero, suc, _+_, _≤_, _<_}
 use native.Mathlib.Omega.{arith}
 use lib.ListN.{length, take, drop, length-drop}
 use lib.Seq.{length-take-le}
+use Rattle.wire.specs.declared.cursor.Fault.{Fault}
 use Rattle.wire.specs.declared.cursor.Fault.the-variants.{Malformed}
 use Rattle.wire.specs.declared.cursor.Cursor.{Cursor}
 use Rattle.wire.specs.declared.cursor.Cursor.the-variants.{At, Stop}
 use Rattle.wire.specs.declared.order.Ordering.{Ordering}
 use Rattle.wire.specs.declared.order.Ordering.the-variants.{Less, Equal, Greater}
 use Rattle.wire.specs.declared.text.TextRead.{TextRead}
-use Rattle.wire.specs.Parse.{Parsed, got, check, never-got}
+use Rattle.wire.specs.Parse.{Parsed, got, never-got}
 use Rattle.wire.specs.Combinators.{only}
 use Rattle.wire.specs.Text.{text-read}
 use Rattle.wire.specs.Orders.{byBytes}
 use Rattle.wire.specs.Lists.{after, isLess}
 use Rattle.wire.specs.Reading.{AnswersPart, part, run, give, noText}
-use Rattle.wire.proofs.Readers.{read-then}
+use Rattle.image.proofs.Passing.{only-kept, only-stopped, only-refused, stops-free}
 use Rattle.image.specs.FieldLayout.{name}
 use Rattle.image.specs.Places.{passed, Ends, nameBefore}
 
@@ -36,37 +37,18 @@ module _ {img : List ℕ} {at next : Cursor} {s n : ℕ} (h : AnswersPart img (t
       go (At i) d = omega (arith, name .forth (drop i img) (part img s n) (drop q img) d .1 .0, part-length img s n (h .inside))
       go (Stop f) d = never-got d
 
-  module _ (prev : Bool) where
-    kept : (c : Cursor) → prev ≡ true → run img (λ r. check Malformed prev (got (part img s n) r)) c ≡ give img (part img s n) c
-    kept (At q) e = rw e
-    kept (Stop f) e = refl
-
   abbrev following : ℕ → ℕ → Bool
   following start size = after byBytes (nameBefore img start size) (part img s n)
 
   pub name-follows : (start size : ℕ) → following start size ≡ true
       → AnswersPart img (only (after byBytes (nameBefore img start size)) name .read) at s n next
-  name-follows start size e = record {
-    reads =
-        read-then img (text-read 1 255) _ {next = next} {a = part img s n} (h .reads)
-        (record { same = kept (following start size) next e; within = h .reads .within });
-    inside = h .inside;
-    ends = h .ends;
-  }
+  name-follows start size e =
+      record { reads = only-kept name (after byBytes (nameBefore img start size)) (h .reads) e; inside = h .inside; ends = h .ends }
 
-  stays : (start size : ℕ) (c : Cursor) {f : _} → c ≡ Stop f → run img (λ r. check Malformed (following start size) (got (part img s n) r)) c ≡ give img (part img s n) c
-  stays start size (At q) e = absurd (let z : _≡_ {A = ℕ} 0 1 = cc in omega arith)
-  stays start size (Stop f) e = refl
-
-  pub name-stops : (start size : ℕ) {f : _} → next ≡ Stop f
+  pub name-stops : (start size : ℕ) {f : Fault} → next ≡ Stop f
       → AnswersPart img (only (after byBytes (nameBefore img start size)) name .read) at s n next
-  name-stops start size e = record {
-    reads =
-        read-then img (text-read 1 255) _ {next = next} {a = part img s n} (h .reads)
-        (record { same = stays start size next e; within = h .reads .within });
-    inside = h .inside;
-    ends = h .ends;
-  }
+  name-stops start size e =
+      record { reads = only-stopped name (after byBytes (nameBefore img start size)) (h .reads) e; inside = h .inside; ends = h .ends }
 
   -- by the order of the name before and this one
   pub less-follows : (start size : ℕ) → byBytes .cmp (part img start size) (part img s n) ≡ Less → following start size ≡ true
@@ -88,10 +70,8 @@ module _ {img : List ℕ} {at next : Cursor} {s n : ℕ} (h : AnswersPart img (t
 
   pub name-refused : {q : ℕ} (start size : ℕ) {r : TextRead} → next ≡ At q → following start size ≡ false → r ≡ noText Malformed
       → AnswersPart img (only (after byBytes (nameBefore img start size)) name .read) at (r .start) (r .length) (r .next)
-  name-refused {q} start size d e f = rw f (record {
-    reads =
-        read-then img (text-read 1 255) _ {next = At q} {a = part img s n} (rw d at (h .reads))
-        (record { same = rw e; within = tt });
+  name-refused start size d e f = rw f (record {
+    reads = stops-free _ (only-refused name (after byBytes (nameBefore img start size)) (h .reads) d e);
     inside = omega arith;
     ends = (refl, refl);
   })

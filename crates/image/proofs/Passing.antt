@@ -1,7 +1,7 @@
 -- How passing over constructs is put together. A construct that stops stays stopped, for the same fault.
 -- Assumes nothing.
 use mathlib.Core.Path.{_≡_, refl, sym, ap, _∙_}
-use mathlib.Core.Bool.{true}
+use mathlib.Core.Bool.{Bool, true, false}
 use mathlib.Core.List.{List, [], _∷_}
 use mathlib.Core.Option.{Option, none, some}
 use Prim.Native.Nat.{ℕ, zero, suc, _+_, _-_, _≤_, _<_}
@@ -9,9 +9,10 @@ use native.Mathlib.Omega.{arith}
 use lib.Dec.{leb}
 use lib.ListN.{length, drop}
 use Rattle.wire.specs.declared.cursor.Fault.{Fault}
+use Rattle.wire.specs.declared.cursor.Fault.the-variants.{Malformed}
 use Rattle.wire.specs.declared.cursor.Cursor.{Cursor}
 use Rattle.wire.specs.declared.cursor.Cursor.the-variants.{At, Stop}
-use Rattle.wire.specs.Parse.{Parsed, fault, got, bind, bind-inv, never-got}
+use Rattle.wire.specs.Parse.{Parsed, fault, got, bind, check, never-got}
 use Rattle.wire.specs.Codec.{Codec}
 use Rattle.wire.specs.Combinators.{only, opt-read}
 use Rattle.wire.specs.Number.{edge, number-read, numberTo}
@@ -19,6 +20,7 @@ use Rattle.wire.specs.Order.{Order}
 use Rattle.wire.specs.Maps.{Map, asMap, asMap-rows}
 use Rattle.wire.specs.Lists.{after, row, rows, rising, rising-read, all-rising}
 use Rattle.wire.specs.Reading.{Reads, Answers, run, give, cursorIn}
+use Rattle.wire.proofs.Readers.{read-then, read-stop}
 use Rattle.image.specs.Places.{passed, Ends, rowsFrom}
 
 pub ends-of : {A : Type 0} {img : List ℕ} {p : List ℕ → Parsed A} {at next : Cursor} {a : A} → Reads img p at a next → Ends img p at next
@@ -87,6 +89,26 @@ module _ {A B C : Type 0} {img : List ℕ} (p : List ℕ → Parsed A) (q : List
   pub ends-then : {at mid next : Cursor} → Ends img p at mid → Ends img q mid next
       → Ends img (λ s. bind (p s) (λ a r. bind (q r) (λ b t. got (f a b) t))) at next
   ends-then {at} {mid} {next} h g = record { same = paired at mid next h (g .same); within = g .within }
+
+-- what passes a test, judged where it was read
+module _ {A : Type 0} {img : List ℕ} (c : Codec A) (test : A → Bool) {at next : Cursor} {a : A} (h : Reads img (c .read) at a next) where
+  judged : (n : Cursor) → test a ≡ true → run img (λ r. check Malformed (test a) (got a r)) n ≡ give img a n
+  judged (At q) e = rw e
+  judged (Stop f) e = refl
+
+  pub only-kept : test a ≡ true → Reads img (only test c .read) at a next
+  only-kept e = read-then img (c .read) (λ a r. check Malformed (test a) (got a r)) h (record { same = judged next e; within = h .within })
+
+  pub only-stopped : {f : Fault} → next ≡ Stop f → Reads img (only test c .read) at a next
+  only-stopped {f} e = rw e (read-then img (c .read) (λ a r. check Malformed (test a) (got a r)) (rw e at h) (read-stop img _))
+
+  pub only-refused : {q : ℕ} → next ≡ At q → test a ≡ false → Reads img (only test c .read) at a (Stop Malformed)
+  only-refused d e =
+      read-then img (c .read) (λ a r. check Malformed (test a) (got a r)) (rw d at h) (record { same = rw e; within = tt })
+
+-- where it stops, the value is free
+pub stops-free : {A : Type 0} {img : List ℕ} {p : List ℕ → Parsed A} {at : Cursor} {f : Fault} {a : A} (b : A) → Reads img p at a (Stop f) → Reads img p at b (Stop f)
+stops-free b h = record { same = h .same; within = tt }
 
 -- a field that is there, or not
 module _ {A : Type 0} (p : List ℕ → Parsed A) where

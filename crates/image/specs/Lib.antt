@@ -8,5 +8,6 @@ pub mod Under
 pub mod KindLayout
 pub mod NodeLayout
 pub mod RecordLayout
+pub mod Held
 pub mod StoreLayout
 pub mod RoundTrip

@@ -1,15 +1,19 @@
 -- Where the fields of an image stand: what the readers that pass over a construct promise.
 use mathlib.Core.Path.{_≡_}
+use mathlib.Core.Bool.{Bool, true, false}
 use mathlib.Core.List.{List}
 use mathlib.Core.Option.{Option, none, some}
-use Prim.Native.Nat.{ℕ, zero, suc}
+use Prim.Native.Nat.{ℕ, zero, suc, _-_}
+use lib.ListN.{length, drop}
 use Rattle.wire.specs.declared.cursor.Cursor.{Cursor}
+use Rattle.wire.specs.declared.cursor.Cursor.the-variants.{At, Stop}
 use Rattle.wire.specs.Parse.{Parsed, fault, got, bind}
 use Rattle.wire.specs.Codec.{Codec}
 use Rattle.wire.specs.Combinators.{opt-read}
 use Rattle.wire.specs.Number.{number-read}
 use Rattle.wire.specs.Order.{Order}
-use Rattle.wire.specs.Lists.{chain-read, row, onto}
+use Rattle.wire.specs.Rows.{choose}
+use Rattle.wire.specs.Lists.{chain-read, row, onto, lastCount}
 use Rattle.wire.specs.Reading.{run, give, cursorIn, part}
 
 -- that something was read, whatever it was
@@ -30,7 +34,29 @@ maybe-read p s = bind (number-read 1 s) (λ bit r. opt-read p bit r)
 abbrev pub rowsFrom : {K A : Type 0} → Order K → Codec K → Codec A → ℕ → Option K → List ℕ → Parsed (List (K × A))
 rowsFrom O key value = chain-read (row O key value) (onto O key value)
 
+-- what follows from what was read, if it was
+abbrev pub ifRead : {A B : Type 0} → Parsed A → (A → List ℕ → Option B) → Option B
+ifRead (fault f) g = none
+ifRead (got a r) g = g a r
+
+-- the place of what stands under the key k, in the n rows at the front of the bytes s, which are the end of an image of `size` bytes
+unfoldable pub placeUnder : {K A : Type 0} → Order K → Codec K → Codec A → ℕ → K → ℕ → List ℕ → Option ℕ
+placeUnder O key value size k zero s = none
+placeUnder O key value size k (suc n) s =
+    ifRead (key .read s) (λ j r.
+    choose (O .cmp k j) (some (size - length r)) (ifRead (value .read r) (λ v q. placeUnder O key value size k n q)))
+
+-- the same in the whole list at a cursor, its count first
+abbrev pub placeIn : {K A : Type 0} → Order K → Codec K → Codec A → List ℕ → K → Cursor → Option ℕ
+placeIn O key value img k (At n) = ifRead (number-read lastCount (drop n img)) (λ c r. placeUnder O key value (length img) k c r)
+placeIn O key value img k (Stop f) = none
+
 -- the name before, of `size` bytes; none has no bytes
 abbrev pub nameBefore : List ℕ → ℕ → ℕ → Option (List ℕ)
 nameBefore img start zero = none
 nameBefore img start (suc n) = some (part img start (suc n))
+
+-- the inode before, if there is one
+abbrev pub inodeBefore : Bool → ℕ → Option ℕ
+inodeBefore true i = some i
+inodeBefore false i = none

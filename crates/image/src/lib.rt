@@ -1,5 +1,6 @@
 // The layout of the image: readers that judge and pass over each construct, and what is gathered on the way.
 pub mod field;
+pub mod inode;
 pub mod name;
 pub mod node;
 pub mod record;
