@@ -3,3 +3,4 @@ pub mod Passing
 pub mod Names
 pub mod Constructs
 pub mod Inodes
+pub mod Holding

@@ -51,6 +51,13 @@ abbrev pub placeIn : {K A : Type 0} → Order K → Codec K → Codec A → List
 placeIn O key value img k (At n) = ifRead (number-read lastCount (drop n img)) (λ c r. placeUnder O key value (length img) k c r)
 placeIn O key value img k (Stop f) = none
 
+-- a place holds a value: it is read there; no place, no value
+abbrev pub Holds : {A : Type 0} → List ℕ → (List ℕ → Parsed A) → Option ℕ → Option A → Type 0
+Holds img p none none = Unit {0}
+Holds img p none (some a) = ⊥
+Holds img p (some n) none = ⊥
+Holds img p (some n) (some a) = (r : List ℕ) × (p (drop n img) ≡ got a r)
+
 -- the name before, of `size` bytes; none has no bytes
 abbrev pub nameBefore : List ℕ → ℕ → ℕ → Option (List ℕ)
 nameBefore img start zero = none
