@@ -64,6 +64,17 @@ first (some p) o = some p
 place-left : (img : List ℕ) (m : ℕ) → m ≤ length img → length img - length (drop m img) ≡ m
 place-left img m h = omega (arith, length-drop m img)
 
+pub key-read : (prev : Option ℕ) (s : List ℕ) {r : List ℕ} {j : ℕ} → only (after byNumber prev) inode .read s ≡ got j r → number-read edge s ≡ got j r
+key-read prev s {r} {j} e = go (number-read edge s) e
+  where
+    judge : (b : Bool) (i : ℕ) (t : List ℕ) → check Malformed b (got i t) ≡ got j r → got i t ≡ got j r
+    judge true i t d = d
+    judge false i t d = never-got d
+
+    go : (o : Parsed ℕ) → bind o (λ a r. check Malformed (after byNumber prev a) (got a r)) ≡ got j r → o ≡ got j r
+    go (fault f) d = never-got d
+    go (got i t) d = judge (after byNumber prev i) i t d
+
 module _ {A : Type 0} (value : Codec A) (img : List ℕ) (sought : ℕ) where
   abbrev placed : ℕ → List ℕ → Option ℕ
   placed = placeUnder byNumber inode value (length img) sought
@@ -81,17 +92,6 @@ module _ {A : Type 0} (value : Codec A) (img : List ℕ) (sought : ℕ) where
 
   pub seeking-start : {start n : ℕ} → Seeking start n P.Nowhere start n
   seeking-start = record { same = refl }
-
-  key-read : (prev : Option ℕ) (s : List ℕ) {r : List ℕ} {j : ℕ} → only (after byNumber prev) inode .read s ≡ got j r → number-read edge s ≡ got j r
-  key-read prev s {r} {j} e = go (number-read edge s) e
-    where
-      judge : (b : Bool) (i : ℕ) (t : List ℕ) → check Malformed b (got i t) ≡ got j r → got i t ≡ got j r
-      judge true i t d = d
-      judge false i t d = never-got d
-
-      go : (o : Parsed ℕ) → bind o (λ a r. check Malformed (after byNumber prev a) (got a r)) ≡ got j r → o ≡ got j r
-      go (fault f) d = never-got d
-      go (got i t) d = judge (after byNumber prev i) i t d
 
   chosen : (place : Place) (m : ℕ) (b : Bool) (j : ℕ) (rest : Option ℕ) → eqb j sought ≡ b
       → first (placeOf place) (choose (cmpN sought j) (some m) rest) ≡ first (placeOf (orHere place (At m) b)) rest

@@ -4,3 +4,4 @@ pub mod Names
 pub mod Constructs
 pub mod Inodes
 pub mod Holding
+pub mod Batches

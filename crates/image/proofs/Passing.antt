@@ -21,7 +21,7 @@ use Rattle.wire.specs.Maps.{Map, asMap, asMap-rows}
 use Rattle.wire.specs.Lists.{after, row, rows, rising, rising-read, all-rising}
 use Rattle.wire.specs.Reading.{Reads, Answers, run, give, cursorIn}
 use Rattle.wire.proofs.Readers.{read-then, read-stop}
-use Rattle.image.specs.Places.{passed, Ends, rowsFrom}
+use Rattle.image.specs.Places.{passed, Ends, rowsFrom, lastOf}
 
 pub ends-of : {A : Type 0} {img : List ℕ} {p : List ℕ → Parsed A} {at next : Cursor} {a : A} → Reads img p at a next → Ends img p at next
 ends-of {A} {img} {p} {at} {next} {a} h = record { same = ap passed (h .same) ∙ go next; within = h .within }
@@ -133,33 +133,37 @@ module _ {K A : Type 0} (O : Order K) (key : Codec K) (value : Codec A) where
   abbrev keyAfter : Option K → List ℕ → Parsed K
   keyAfter prev = only (after O prev) key .read
 
+  later : (prev : Option K) (e : K × A) (o : Parsed (List (K × A))) → lastOf prev (bind o (λ l r. got (e ∷ l) r)) ≡ lastOf (some (e .0)) o
+  later prev e (fault f) = refl
+  later prev e (got l r) = refl
+
   rows-step : (n : ℕ) (prev : Option K) (s r : List ℕ) {k : K} {v : A} → 0 < n → row O key value prev .read s ≡ got (k, v) r
-      → passed (rowsFrom O key value n prev s) ≡ passed (rowsFrom O key value (n - 1) (some k) r)
+      → lastOf prev (rowsFrom O key value n prev s) ≡ lastOf (some k) (rowsFrom O key value (n - 1) (some k) r)
   rows-step zero prev s r h e = absurd (omega arith)
-  rows-step (suc n) prev s r {k} {v} h e = rw (e, one-less n) (passed-made (λ l. (k, v) ∷ l) (rowsFrom O key value n (some k) r))
+  rows-step (suc n) prev s r {k} {v} h e = rw (e, one-less n) (later prev (k, v) (rowsFrom O key value n (some k) r))
 
   module _ {img : List ℕ} {here n : ℕ} (prev : Option K) {k : K} {mid : Cursor} (h : 0 < n) (a : Reads img (keyAfter prev) (At here) k mid) where
-    rows-on : {q : ℕ} → Ends img (value .read) mid (At q) → passed (rowsFrom O key value n prev (drop here img)) ≡ passed (rowsFrom O key value (n - 1) (some k) (drop q img))
+    rows-on : {q : ℕ} → Ends img (value .read) mid (At q) → lastOf prev (rowsFrom O key value n prev (drop here img)) ≡ lastOf (some k) (rowsFrom O key value (n - 1) (some k) (drop q img))
     rows-on {q} b = go mid (a .same) (b .same)
       where
         go : (m : Cursor) → keyAfter prev (drop here img) ≡ give img k m → passed (run img (value .read) m) ≡ got tt (drop q img)
-            → passed (rowsFrom O key value n prev (drop here img)) ≡ passed (rowsFrom O key value (n - 1) (some k) (drop q img))
+            → lastOf prev (rowsFrom O key value n prev (drop here img)) ≡ lastOf (some k) (rowsFrom O key value (n - 1) (some k) (drop q img))
         go (At m) e d =
             let g = ends-got {p = value .read} {n = m} {q = q} (record { same = d; within = b .within }) in
             rows-step n prev (drop here img) (drop q img) {k = k} {v = g .0} h (rw (e, g .1))
         go (Stop f) e d = never-got d
 
-    rows-fault : {f : Fault} → Ends img (value .read) mid (Stop f) → passed (rowsFrom O key value n prev (drop here img)) ≡ fault f
+    rows-fault : {f : Fault} → Ends img (value .read) mid (Stop f) → lastOf prev (rowsFrom O key value n prev (drop here img)) ≡ fault f
     rows-fault {f} b = go n h mid (a .same) (b .same)
       where
         go : (n : ℕ) → 0 < n → (m : Cursor) → keyAfter prev (drop here img) ≡ give img k m → passed (run img (value .read) m) ≡ fault f
-            → passed (rowsFrom O key value n prev (drop here img)) ≡ fault f
+            → lastOf prev (rowsFrom O key value n prev (drop here img)) ≡ fault f
         go zero h m e d = absurd (omega arith)
         go (suc n) h (At m) e d =
             rw (e, ends-fault {p = value .read} {n = m} {f = f} (record { same = d; within = tt }))
         go (suc n) h (Stop y) e d = let z : y ≡ f = cc in rw (e, z)
 
-  rows-none : (n : ℕ) (prev : Option K) (s : List ℕ) → n ≤ 0 → passed (rowsFrom O key value n prev s) ≡ got tt s
+  rows-none : (n : ℕ) (prev : Option K) (s : List ℕ) → n ≤ 0 → lastOf prev (rowsFrom O key value n prev s) ≡ got prev s
   rows-none zero prev s h = refl
   rows-none (suc n) prev s h = absurd (omega arith)
 
@@ -185,9 +189,17 @@ module _ {K A : Type 0} (O : Order K) (key : Codec K) (value : Codec A) where
         → Ends img (rising O key value most limit .read) at next
     ends-list h g = ends-rising (ends-chosen (number-read most) (λ n r. rowsFrom O key value n none r) (h .reads) g)
 
+last-passed : {K A : Type 0} (prev : Option K) {last : Option K} (o : Parsed (List (K × A))) {r : List ℕ} → lastOf prev o ≡ got last r → passed o ≡ got tt r
+last-passed prev (fault f) e = never-got e
+last-passed prev (got l q) e = cc
+
+last-fault : {K A : Type 0} (prev : Option K) (o : Parsed (List (K × A))) {f : Fault} → lastOf prev o ≡ fault f → passed o ≡ fault f
+last-fault prev (fault g) e = cc
+last-fault prev (got l q) e = never-got (sym e)
+
 -- The loop over the rows has come to `here`, where `left` are left after the key `prev`.
 pub record Passed {K A : Type 0} (O : Order K) (key : Codec K) (value : Codec A) (img : List ℕ) (first n : ℕ) (prev : Option K) (here left : ℕ) : Type 0 where
-  pub same : passed (rowsFrom O key value n none (drop first img)) ≡ passed (rowsFrom O key value left prev (drop here img))
+  pub same : lastOf none (rowsFrom O key value n none (drop first img)) ≡ lastOf prev (rowsFrom O key value left prev (drop here img))
   pub within : here ≤ length img
 
 module _ {K A : Type 0} (O : Order K) (key : Codec K) (value : Codec A) {img : List ℕ} {first n : ℕ} where
@@ -195,12 +207,17 @@ module _ {K A : Type 0} (O : Order K) (key : Codec K) (value : Codec A) {img : L
   passed-start h = record { same = refl; within = h }
 
   module _ {prev : Option K} {here left : ℕ} (p : Passed O key value img first n prev here left) where
+    -- the last key
+    pub passed-last : left ≤ 0 → lastOf none (rowsFrom O key value n none (drop first img)) ≡ got prev (drop here img)
+    passed-last h = p .same ∙ rows-none O key value left prev (drop here img) h
+
     pub passed-all : left ≤ 0 → Ends img (rowsFrom O key value n none) (At first) (At here)
-    passed-all h = record { same = p .same ∙ rows-none O key value left prev (drop here img) h; within = p .within }
+    passed-all h = record { same = last-passed none (rowsFrom O key value n none (drop first img)) (passed-last h); within = p .within }
 
     module _ {k : K} {mid next : Cursor} (h : 0 < left) (a : Reads img (only (after O prev) key .read) (At here) k mid) (b : Ends img (value .read) mid next) where
       pub passed-on : {q : ℕ} → next ≡ At q → Passed O key value img first n (some k) q (left - 1)
       passed-on e = let g = rw e at b in record { same = p .same ∙ rows-on O key value prev h a g; within = g .within }
 
       pub passed-stop : {f : Fault} → next ≡ Stop f → Ends img (rowsFrom O key value n none) (At first) next
-      passed-stop e = rw e (record { same = p .same ∙ rows-fault O key value prev h a (rw e at b); within = tt })
+      passed-stop e =
+          rw e (record { same = last-fault none (rowsFrom O key value n none (drop first img)) (p .same ∙ rows-fault O key value prev h a (rw e at b)); within = tt })

@@ -10,4 +10,5 @@ pub mod NodeLayout
 pub mod RecordLayout
 pub mod Held
 pub mod StoreLayout
+pub mod Gathering
 pub mod RoundTrip

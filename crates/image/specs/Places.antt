@@ -1,7 +1,7 @@
 -- Where the fields of an image stand: what the readers that pass over a construct promise.
 use mathlib.Core.Path.{_≡_}
 use mathlib.Core.Bool.{Bool, true, false}
-use mathlib.Core.List.{List}
+use mathlib.Core.List.{List, [], _∷_}
 use mathlib.Core.Option.{Option, none, some}
 use Prim.Native.Nat.{ℕ, zero, suc, _-_}
 use lib.ListN.{length, drop}
@@ -33,6 +33,15 @@ maybe-read p s = bind (number-read 1 s) (λ bit r. opt-read p bit r)
 -- n rows of a rising list, after the key `prev`
 abbrev pub rowsFrom : {K A : Type 0} → Order K → Codec K → Codec A → ℕ → Option K → List ℕ → Parsed (List (K × A))
 rowsFrom O key value = chain-read (row O key value) (onto O key value)
+
+-- the last key of rows that come after the key `prev`
+abbrev pub lastKey : {K A : Type 0} → Option K → List (K × A) → Option K
+lastKey prev [] = prev
+lastKey prev (e ∷ l) = lastKey (some (e .0)) l
+
+abbrev pub lastOf : {K A : Type 0} → Option K → Parsed (List (K × A)) → Parsed (Option K)
+lastOf prev (fault f) = fault f
+lastOf prev (got l r) = got (lastKey prev l) r
 
 -- what follows from what was read, if it was
 abbrev pub ifRead : {A B : Type 0} → Parsed A → (A → List ℕ → Option B) → Option B

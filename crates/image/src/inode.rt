@@ -34,7 +34,7 @@ pub struct InodeRead {
 }
 
 // The inode at `at`, which is after the one before it, if there is one.
-fn inode_after(img: &[u8], at: Cursor, any: bool, before: u64) -> NumberRead
+pub fn inode_after(img: &[u8], at: Cursor, any: bool, before: u64) -> NumberRead
     ensures { λ r. ⌜ Answers (now (img .entry)) (only (after byNumber (inodeBefore any before)) inode .read) at 0 (r .value) (r .next) ⌝ }
 {
     let number = read_number(img, at, 0xFFFF_FFFF_FFFF_FFFF);

@@ -1,0 +1,114 @@
+// The batches of the queue, and the records that they hold of one inode.
+ghost use Prim.Native.Nat.{_≤_};
+ghost use mathlib.Core.Path.{_≡_, refl};
+ghost use lib.ListN.{length};
+ghost use Rattle.wire.specs.Number.{between};
+ghost use Rattle.wire.specs.Reading.{cursorIn};
+ghost use Rattle.image.specs.Places.{Ends};
+ghost use Rattle.image.specs.Held.{placeOf};
+ghost use Rattle.image.specs.Gathering.{Pushed, Gathers};
+use crate::field::pass_number;
+use crate::field::pass_time;
+use crate::inode::Held;
+use crate::inode::Place;
+use crate::inode::find_inode;
+use crate::inode::inode_after;
+use wire::cursor::Cursor;
+use wire::cursor::Fault;
+use wire::number::read_number;
+
+// An inode's node in the base, and its records in the layers that have one: `count` places, the front batch's first.
+pub struct InodeLayerStack {
+    pub base: Place,
+    pub deltas: [usize; 17],
+    pub count: usize,
+}
+
+pub struct BatchesRead {
+    pub stack: InodeLayerStack,
+    pub any: bool,
+    pub last: u64,
+    pub next: Cursor,
+}
+
+// The stack with one place more, if it is one.
+fn pushed(stack: InodeLayerStack, place: Place) -> InodeLayerStack
+    requires { ⌜ (stack .count ≤ 16) × (length (stack .deltas) ≡ 17) ⌝ }
+    ensures { λ r. ⌜ Pushed stack (placeOf place) r ⌝ }
+{
+    match place {
+        Place::At(p) => {
+            let at = stack.count;
+            let mut out = stack;
+            out.deltas[at] = p;
+            out.count = at + 1;
+            out
+        }
+        Place::Nowhere => stack,
+    }
+}
+
+// A reason, from 1 to 5.
+fn pass_reason(img: &[u8], at: Cursor) -> Cursor
+    ensures { λ r. ⌜ Ends (now (img .entry)) (between 1 5 refl .read) at r ⌝ }
+{
+    let reason = read_number(img, at, 5);
+    let next = reason.next;
+    match next {
+        Cursor::At(_) => {
+            if reason.value == 0 {
+                return Cursor::Stop(Fault::Malformed);
+            }
+            next
+        }
+        Cursor::Stop(_) => next,
+    }
+}
+
+// Passes `count` batches, the first of which is at `first`, and pushes the places of the records that they hold of one inode.
+pub fn gather_batches(
+    img: &[u8],
+    first: usize,
+    count: u64,
+    sought: u64,
+    stack: InodeLayerStack,
+) -> BatchesRead
+    requires { ⌜ (first ≤ length (now img)) × (count ≤ 16) × (stack .count ≡ 0) × (length (stack .deltas) ≡ 17) ⌝ }
+    ensures { λ r. ⌜ Gathers (now (img .entry)) sought first count stack r ⌝ }
+{
+    let mut left = count;
+    let mut here = first;
+    let mut any = false;
+    let mut last: u64 = 0;
+    let mut gathered = stack;
+    while 0 < left {
+        let id = inode_after(img, Cursor::At(here), any, last);
+        let named = id.next;
+        let operations = pass_number(img, named, 0xFFFF_FFFF);
+        let reason = pass_number(img, operations, 0xFFFF_FFFF);
+        let committed = pass_reason(img, reason);
+        let records = pass_time(img, committed);
+        let found = find_inode(img, records, Held::Record, sought);
+        let next = found.next;
+        let Cursor::At(end) = next else {
+            return BatchesRead {
+                stack: gathered,
+                any,
+                last,
+                next,
+            };
+        };
+        let place = found.place;
+        gathered = pushed(gathered, place);
+        last = id.value;
+        any = true;
+        here = end;
+        left = left - 1;
+    }
+    BatchesRead {
+        stack: gathered,
+        any,
+        last,
+        next: Cursor::At(here),
+    }
+}
