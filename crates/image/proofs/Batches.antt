@@ -3,7 +3,7 @@
 use mathlib.Core.Path.{_≡_, refl, sym, ap, _∙_}
 use mathlib.Core.Bool.{Bool, true, false}
 use mathlib.Core.List.{List, [], _++_, append-assoc, append-nil}
-use mathlib.Core.Option.{Option}
+use mathlib.Core.Option.{Option, none}
 use Prim.Native.Nat.{ℕ, zero, suc, _+_, _-_, _≤_, _<_}
 use native.Mathlib.Omega.{arith}
 use lib.ListN.{length, drop}
@@ -12,20 +12,21 @@ use Rattle.wire.specs.declared.cursor.Cursor.{Cursor}
 use Rattle.wire.specs.declared.cursor.Cursor.the-variants.{At, Stop}
 use Rattle.wire.specs.Parse.{Parsed, got, never-got}
 use Rattle.wire.specs.Combinators.{only}
-use Rattle.wire.specs.Number.{between}
+use Rattle.wire.specs.Number.{number-read, between}
 use Rattle.wire.specs.Orders.{byNumber}
 use Rattle.wire.specs.Lists.{after}
-use Rattle.wire.specs.Reading.{Answers}
+use Rattle.wire.specs.Reading.{Answers, run}
 use Rattle.image.specs.FieldLayout.{inode, word, moment}
 use Rattle.image.specs.RecordLayout.{layerRecord, records}
 use Rattle.image.specs.StoreLayout.{batchRest}
-use Rattle.image.specs.Places.{Ends, inodeBefore}
+use Rattle.image.specs.Places.{Ends, inodeBefore, rowsFrom, lastOf}
 use Rattle.image.specs.Held.{placeOf, Finds}
-use Rattle.image.specs.Gathering.{listIf, deltasOf, batchHead, recordPlace, batchPlaces, Pushed, Gathers}
+use Rattle.image.specs.Gathering.{listIf, deltasOf, batchHead, recordPlace, batchPlaces, queueRows, queuePlaces, Pushed, Gathers, GathersQueue}
 use Rattle.image.specs.declared.inode.Held.the-variants as H
 use Rattle.image.specs.declared.inode.Place.{Place}
 use Rattle.image.specs.declared.batch.InodeLayerStack.{InodeLayerStack}
-use Rattle.image.proofs.Passing.{ends-of, ends-got, ends-then, Passed, passed-start, passed-on, passed-stop, passed-last, passed-all}
+use Rattle.image.specs.declared.batch.BatchesRead.{BatchesRead}
+use Rattle.image.proofs.Passing.{ends-of, ends-stop, ends-chosen, ends-got, ends-then, Passed, passed-start, passed-on, passed-stop, passed-last, passed-all}
 use Rattle.image.proofs.Inodes.{key-read}
 
 -- what was passed started at a place
@@ -141,3 +142,39 @@ module _ {img : List ℕ} {sought first n last here left : ℕ} {old now : Inode
       wide = p .wide;
       base = p .base ∙ w .base;
     }
+
+-- ---- the whole list, its count first
+
+counted : (img : List ℕ) (sought n first : ℕ) (c : Cursor) → run img (number-read 16) c ≡ got n (drop first img)
+    → queuePlaces img sought c ≡ batchPlaces (length img) sought n (drop first img)
+counted img sought n first (At i) e = rw e
+counted img sought n first (Stop f) e = never-got e
+
+module _ {img : List ℕ} {sought n : ℕ} {at mid : Cursor} {base : Place} (h : Answers img (number-read 16) at 0 n mid) where
+  pub queue-all : {first : ℕ} {old : InodeLayerStack} {r : BatchesRead} → mid ≡ At first → n ≤ 16 → deltasOf old ≡ [] → old .base ≡ base
+      → Gathers img sought first n old r → GathersQueue img sought at base r
+  queue-all {first} {old} {r} e l d b g = record {
+    ends = ends-chosen (number-read 16) (λ n s. rowsFrom byNumber inode batchRest n none s) (rw e at (h .reads)) (g .ends);
+    last = λ m q z x. rows-last m z q x;
+    places = λ q x. g .places q x ∙ rw d (sym (counted img sought n first at ((rw e at h) .reads .same)));
+    base-kept = λ q x. g .base q x ∙ b;
+    few = λ q x. omega (arith, g .few q x);
+    wide = g .wide;
+  }
+    where
+      rows-last : (m : ℕ) → at ≡ At m → (q : ℕ) → r .next ≡ At q
+          → lastOf none (queueRows .read (drop m img)) ≡ got (inodeBefore (r .any) (r .last)) (drop q img)
+      rows-last m z q x =
+          let k : number-read 16 (drop m img) ≡ got n (drop first img) = (rw (z, e) at h) .reads .same in
+          rw k (g .last q x)
+
+  pub queue-stop : {f : Fault} {old : InodeLayerStack} → mid ≡ Stop f → length (old .deltas) ≡ 17
+      → GathersQueue img sought at base (record { stack = old; any = false; last = 0; next = Stop f })
+  queue-stop {f} e w = record {
+    ends = ends-chosen (number-read 16) (λ n s. rowsFrom byNumber inode batchRest n none s) (rw e at (h .reads)) (ends-stop img _);
+    last = λ m q z x. no-place {f = f} refl x;
+    places = λ q x. no-place {f = f} refl x;
+    base-kept = λ q x. no-place {f = f} refl x;
+    few = λ q x. no-place {f = f} refl x;
+    wide = w;
+  }

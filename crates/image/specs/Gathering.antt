@@ -12,11 +12,12 @@ use Rattle.wire.specs.declared.time.Time.{Time}
 use Rattle.wire.specs.Combinators.{_then_}
 use Rattle.wire.specs.Number.{number-read, between}
 use Rattle.wire.specs.Orders.{byNumber}
-use Rattle.wire.specs.Lists.{lastCount}
+use Rattle.wire.specs.Lists.{rows, lastCount}
 use Rattle.image.specs.FieldLayout.{inode, word, moment}
 use Rattle.image.specs.RecordLayout.{layerRecord, records}
-use Rattle.image.specs.StoreLayout.{batchRest}
+use Rattle.image.specs.StoreLayout.{BatchRest, batchRest}
 use Rattle.image.specs.Places.{Ends, ifRead, placeUnder, rowsFrom, lastOf, inodeBefore}
+use Rattle.image.specs.declared.inode.Place.{Place}
 use Rattle.image.specs.declared.batch.InodeLayerStack.{InodeLayerStack}
 use Rattle.image.specs.declared.batch.BatchesRead.{BatchesRead}
 
@@ -57,6 +58,14 @@ pub record Pushed (old : InodeLayerStack) (place : Option ℕ) (new : InodeLayer
   pub wide : length (new .deltas) ≡ 17
   pub base : new .base ≡ old .base
 
+-- the batches as rows by id
+abbrev pub queueRows : Codec (List (ℕ × BatchRest))
+queueRows = rows byNumber inode batchRest 16 refl
+
+abbrev pub asOption : {A : Type 0} → Parsed A → Option (A × List ℕ)
+asOption (fault f) = none
+asOption (got a r) = some (a, r)
+
 -- n batches were passed, from `first` on: where they end, the last id, and the places
 pub record Gathers (img : List ℕ) (sought first n : ℕ) (old : InodeLayerStack) (r : BatchesRead) : Type 0 where
   pub ends : Ends img (rowsFrom byNumber inode batchRest n none) (C.At first) (r .next)
@@ -64,4 +73,18 @@ pub record Gathers (img : List ℕ) (sought first n : ℕ) (old : InodeLayerStac
   pub places : (q : ℕ) → r .next ≡ C.At q → deltasOf (r .stack) ≡ deltasOf old ++ batchPlaces (length img) sought n (drop first img)
   pub base : (q : ℕ) → r .next ≡ C.At q → r .stack .base ≡ old .base
   pub few : (q : ℕ) → r .next ≡ C.At q → r .stack .count ≤ n
+  pub wide : length (r .stack .deltas) ≡ 17
+
+-- the places in the whole list of batches at a cursor
+abbrev pub queuePlaces : List ℕ → ℕ → Cursor → List ℕ
+queuePlaces img sought (C.At n) = orNone (asOption (number-read 16 (drop n img))) (λ p. batchPlaces (length img) sought (p .0) (p .1))
+queuePlaces img sought (C.Stop f) = []
+
+-- the batches were passed: where they end, the last id, and the places over the node found in the base
+pub record GathersQueue (img : List ℕ) (sought : ℕ) (at : Cursor) (base : Place) (r : BatchesRead) : Type 0 where
+  pub ends : Ends img (queueRows .read) at (r .next)
+  pub last : (n q : ℕ) → at ≡ C.At n → r .next ≡ C.At q → lastOf none (queueRows .read (drop n img)) ≡ got (inodeBefore (r .any) (r .last)) (drop q img)
+  pub places : (q : ℕ) → r .next ≡ C.At q → deltasOf (r .stack) ≡ queuePlaces img sought at
+  pub base-kept : (q : ℕ) → r .next ≡ C.At q → r .stack .base ≡ base
+  pub few : (q : ℕ) → r .next ≡ C.At q → r .stack .count ≤ 16
   pub wide : length (r .stack .deltas) ≡ 17

@@ -6,7 +6,7 @@ ghost use Rattle.wire.specs.Number.{between};
 ghost use Rattle.wire.specs.Reading.{cursorIn};
 ghost use Rattle.image.specs.Places.{Ends};
 ghost use Rattle.image.specs.Held.{placeOf};
-ghost use Rattle.image.specs.Gathering.{Pushed, Gathers};
+ghost use Rattle.image.specs.Gathering.{Pushed, Gathers, GathersQueue};
 use crate::field::pass_number;
 use crate::field::pass_time;
 use crate::inode::Held;
@@ -110,5 +110,27 @@ pub fn gather_batches(
         any,
         last,
         next: Cursor::At(here),
+    }
+}
+
+// Passes the list of batches at `at`, its count first, over the node found in the base.
+pub fn gather_queue(img: &[u8], at: Cursor, sought: u64, base: Place) -> BatchesRead
+    ensures { λ r. ⌜ GathersQueue (now (img .entry)) sought at base r ⌝ }
+{
+    let stack = InodeLayerStack {
+        base,
+        deltas: [0; 17],
+        count: 0,
+    };
+    let count = read_number(img, at, 16);
+    let next = count.next;
+    match next {
+        Cursor::At(first) => gather_batches(img, first, count.value, sought, stack),
+        Cursor::Stop(fault) => BatchesRead {
+            stack,
+            any: false,
+            last: 0,
+            next: Cursor::Stop(fault),
+        },
     }
 }
