@@ -30,7 +30,7 @@ use Rattle.image.proofs.Passing.{ends-of, ends-stop, ends-chosen, ends-
 use Rattle.image.proofs.Inodes.{key-read}
 
 -- what was passed started at a place
-ends-from : {A : Type 0} {img : List ℕ} {p : List ℕ → Parsed A} (at : Cursor) {q : ℕ} → Ends img p at (At q) → (m : ℕ) × (at ≡ At m)
+pub ends-from : {A : Type 0} {img : List ℕ} {p : List ℕ → Parsed A} (at : Cursor) {q : ℕ} → Ends img p at (At q) → (m : ℕ) × (at ≡ At m)
 ends-from (At m) h = (m, refl)
 ends-from (Stop f) h = never-got (h .same)
 
@@ -109,7 +109,7 @@ module _ {img : List ℕ} {sought first n last here left : ℕ} {old now : Inode
     last = λ q e. passed-last byNumber inode batchRest (w .rows) h ∙ ap (λ (m : ℕ). got (inodeBefore any last) (drop m img)) (at-same e);
     places = λ q e. sym (append-nil (deltasOf now)) ∙ ap (λ (l : List ℕ). deltasOf now ++ l) (none-places left h) ∙ w .places;
     base = λ q e. w .base;
-    few = λ q e. omega (arith, w .few);
+    few = omega (arith, w .few);
     wide = w .wide;
   }
     where
@@ -129,7 +129,7 @@ module _ {img : List ℕ} {sought first n last here left : ℕ} {old now : Inode
       last = λ q d. no-place e d;
       places = λ q d. no-place e d;
       base = λ q d. no-place e d;
-      few = λ q d. no-place e d;
+      few = omega (arith, w .few);
       wide = w .wide;
     }
 
@@ -158,7 +158,7 @@ module _ {img : List ℕ} {sought n : ℕ} {at mid : Cursor} {base : Place} (h :
     last = λ m q z x. rows-last m z q x;
     places = λ q x. g .places q x ∙ rw d (sym (counted img sought n first at ((rw e at h) .reads .same)));
     base-kept = λ q x. g .base q x ∙ b;
-    few = λ q x. omega (arith, g .few q x);
+    few = omega (arith, g .few);
     wide = g .wide;
   }
     where
@@ -168,13 +168,13 @@ module _ {img : List ℕ} {sought n : ℕ} {at mid : Cursor} {base : Place} (h :
           let k : number-read 16 (drop m img) ≡ got n (drop first img) = (rw (z, e) at h) .reads .same in
           rw k (g .last q x)
 
-  pub queue-stop : {f : Fault} {old : InodeLayerStack} → mid ≡ Stop f → length (old .deltas) ≡ 17
+  pub queue-stop : {f : Fault} {old : InodeLayerStack} → mid ≡ Stop f → length (old .deltas) ≡ 17 → old .count ≤ 16
       → GathersQueue img sought at base (record { stack = old; any = false; last = 0; next = Stop f })
-  queue-stop {f} e w = record {
+  queue-stop {f} e w few = record {
     ends = ends-chosen (number-read 16) (λ n s. rowsFrom byNumber inode batchRest n none s) (rw e at (h .reads)) (ends-stop img _);
     last = λ m q z x. no-place {f = f} refl x;
     places = λ q x. no-place {f = f} refl x;
     base-kept = λ q x. no-place {f = f} refl x;
-    few = λ q x. no-place {f = f} refl x;
+    few = few;
     wide = w;
   }

@@ -5,3 +5,4 @@ pub mod Constructs
 pub mod Inodes
 pub mod Holding
 pub mod Batches
+pub mod Stores

@@ -65,7 +65,7 @@ module _ {A B : Type 0} (p : List ℕ → Parsed A) (k : A → List ℕ → Pars
   ends-chosen {img} {at} {mid} {next} {a} h g = record { same = chosen img at mid a next (h .same) (g .same); within = g .within }
 
 -- the same bytes, made another value
-passed-made : {A B : Type 0} (f : A → B) (o : Parsed A) → passed (bind o (λ a r. got (f a) r)) ≡ passed o
+pub passed-made : {A B : Type 0} (f : A → B) (o : Parsed A) → passed (bind o (λ a r. got (f a) r)) ≡ passed o
 passed-made f (fault y) = refl
 passed-made f (got a r) = refl
 

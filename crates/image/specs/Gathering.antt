@@ -72,7 +72,7 @@ pub record Gathers (img : List ℕ) (sought first n : ℕ) (old : InodeLayerStac
   pub last : (q : ℕ) → r .next ≡ C.At q → lastOf none (rowsFrom byNumber inode batchRest n none (drop first img)) ≡ got (inodeBefore (r .any) (r .last)) (drop q img)
   pub places : (q : ℕ) → r .next ≡ C.At q → deltasOf (r .stack) ≡ deltasOf old ++ batchPlaces (length img) sought n (drop first img)
   pub base : (q : ℕ) → r .next ≡ C.At q → r .stack .base ≡ old .base
-  pub few : (q : ℕ) → r .next ≡ C.At q → r .stack .count ≤ n
+  pub few : r .stack .count ≤ n
   pub wide : length (r .stack .deltas) ≡ 17
 
 -- the places in the whole list of batches at a cursor
@@ -86,5 +86,5 @@ pub record GathersQueue (img : List ℕ) (sought : ℕ) (at : Cursor) (base : Pl
   pub last : (n q : ℕ) → at ≡ C.At n → r .next ≡ C.At q → lastOf none (queueRows .read (drop n img)) ≡ got (inodeBefore (r .any) (r .last)) (drop q img)
   pub places : (q : ℕ) → r .next ≡ C.At q → deltasOf (r .stack) ≡ queuePlaces img sought at
   pub base-kept : (q : ℕ) → r .next ≡ C.At q → r .stack .base ≡ base
-  pub few : (q : ℕ) → r .next ≡ C.At q → r .stack .count ≤ 16
+  pub few : r .stack .count ≤ 16
   pub wide : length (r .stack .deltas) ≡ 17

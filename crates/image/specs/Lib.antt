@@ -11,4 +11,5 @@ pub mod RecordLayout
 pub mod Held
 pub mod StoreLayout
 pub mod Gathering
+pub mod Survey
 pub mod RoundTrip

@@ -32,7 +32,7 @@ pub struct BatchesRead {
 }
 
 // The stack with one place more, if it is one.
-fn pushed(stack: InodeLayerStack, place: Place) -> InodeLayerStack
+pub fn pushed(stack: InodeLayerStack, place: Place) -> InodeLayerStack
     requires { ⌜ (stack .count ≤ 16) × (length (stack .deltas) ≡ 17) ⌝ }
     ensures { λ r. ⌜ Pushed stack (placeOf place) r ⌝ }
 {

@@ -5,3 +5,4 @@ pub mod inode;
 pub mod name;
 pub mod node;
 pub mod record;
+pub mod store;

@@ -1,3 +1,4 @@
+use native.Mathlib.Omega.{arith}
 use mathlib.Core.Path.{refl}
 use Rattle.wire.proofs.Readers.{read-in, number-most}
 use Rattle.image.proofs.Batches.{queue-all, queue-stop}
@@ -21,7 +22,7 @@ returns : tie.Need-returns
 returns c = queue-all (c .before .before .before .before .read-number .ensures) (c .before .before .next .given .1) (number-most _ _ (c .before .before .before .before .read-number .ensures)) refl refl (c .gather-batches .ensures)
 
 returns-2 : tie.Need-returns-2
-returns-2 c = queue-stop (c .before .before .before .read-number .ensures) (c .before .next2 .given .1) refl
+returns-2 c = queue-stop (c .before .before .before .read-number .ensures) (c .before .next2 .given .1) refl (omega arith)
 
 pub gather-queue-spec : {M : Type 1} → statement M
 gather-queue-spec =

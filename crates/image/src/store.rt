@@ -1,0 +1,55 @@
+// The one pass over an image.
+ghost use Rattle.image.specs.Places.{Ends, inodeBefore};
+ghost use Rattle.image.specs.Survey.{tailAfter, Surveys};
+use crate::batch::InodeLayerStack;
+use crate::batch::gather_queue;
+use crate::batch::pushed;
+use crate::field::pass_number;
+use crate::inode::Held;
+use crate::inode::find_inode;
+use crate::inode::inode_after;
+use wire::cursor::Cursor;
+
+// Where the sections of an image stand, and the records of one inode. The base is at 0.
+pub struct Survey {
+    pub stack: InodeLayerStack,
+    pub batches: Cursor,
+    pub live: Cursor,
+    pub tail: Cursor,
+    pub end: Cursor,
+}
+
+// Judges the store at the start of the image, field by field, and gathers the places of one inode's node and records on the way.
+pub fn survey_store(img: &[u8], sought: u64) -> Survey
+    ensures { λ r. ⌜ Surveys (now (img .entry)) sought r ⌝ }
+{
+    let base = find_inode(img, Cursor::At(0), Held::Node, sought);
+    let batches = base.next;
+    let place = base.place;
+    let queue = gather_queue(img, batches, sought, place);
+    let live = queue.next;
+    let record = find_inode(img, live, Held::Record, sought);
+    let tail = record.next;
+    let end = pass_tail(img, tail, queue.any, queue.last);
+    let under = queue.stack;
+    let top = record.place;
+    let stack = pushed(under, top);
+    Survey {
+        stack,
+        batches,
+        live,
+        tail,
+        end,
+    }
+}
+
+// Passes next id, which is above the last id of the queue, if there is one, the staged counts and the request.
+fn pass_tail(img: &[u8], at: Cursor, any: bool, last: u64) -> Cursor
+    ensures { λ r. ⌜ Ends (now (img .entry)) (tailAfter (inodeBefore any last) .read) at r ⌝ }
+{
+    let id = inode_after(img, at, any, last);
+    let bytes = id.next;
+    let operations = pass_number(img, bytes, 0xFFFF_FFFF);
+    let request = pass_number(img, operations, 0xFFFF_FFFF);
+    pass_number(img, request, 5)
+}
