@@ -7,7 +7,8 @@ use mathlib.Core.Option.{Option, none, some}
 use Prim.Native.Nat.{ℕ, zero, suc, _≤_, _<_}
 use native.Mathlib.Omega.{arith}
 use lib.Dec.{ltb}
-use lib.ListN.{length, drop}
+use lib.ListN.{length, getD, drop, drop-of-length-le}
+use lib.Seq.{drop-cons}
 use borrow.Author.Tests.{lt-ltb, le-ltb, ltb-true, ltb-false}
 use Rattle.wire.specs.declared.cursor.Fault.{Fault}
 use Rattle.wire.specs.declared.cursor.Fault.the-variants.{Malformed}
@@ -16,7 +17,7 @@ use Rattle.wire.specs.declared.cursor.Cursor.the-variants.{At, Stop}
 use Rattle.wire.specs.declared.order.Ordering.{Ordering}
 use Rattle.wire.specs.declared.order.Ordering.the-variants.{Less, Equal, Greater}
 use Rattle.wire.specs.Parse.{Parsed, fault, got, bind, check, never-got}
-use Rattle.wire.specs.Codec.{Codec}
+use Rattle.wire.specs.Codec.{Codec, decode}
 use Rattle.wire.specs.Combinators.{_then_, seq, only}
 use Rattle.wire.specs.Number.{number-read, numberTo}
 use Rattle.wire.specs.Orders.{byNumber, cmpN, Says, says}
@@ -32,6 +33,9 @@ use Rattle.image.specs.Places.{passed, Ends, rowsFrom, lastKey, lastOf, 
 use Rattle.image.specs.Gathering.{listIf, queueRows, Pushed, GathersQueue}
 use Rattle.image.specs.Held.{placeOf, foundAt, Finds}
 use Rattle.image.specs.Survey.{tailAfter, Surveys}
+use Rattle.image.specs.Verdict.{verdictOf}
+use Rattle.image.specs.declared.store.Survey.{Survey}
+use Rattle.image.specs.declared.store.Verdict.the-variants.{Fine, TooLong, Broken}
 use Rattle.image.specs.declared.inode.Held.the-variants as H
 use Rattle.image.specs.declared.inode.Place.{Place}
 use Rattle.image.specs.declared.batch.InodeLayerStack.{InodeLayerStack}
@@ -219,3 +223,31 @@ module _ {img : List ℕ} {sought : ℕ} {c1 c3 c4 : Cursor} {place top : Place}
     deltas = λ q e.
         p .places ∙ (λ i. g .places (at-live e .0) (at-live e .1) i ++ listIf ((l .found ∙ found-at (placeIn byNumber inode layerRecord img sought (queue .next)) (at-tail e .1)) i));
   }
+
+-- ---- the verdict
+
+module _ {img : List ℕ} {sought : ℕ} {s : Survey} (w : Surveys img sought s) (short : length img ≤ 65536) where
+  pub is-fine : {q : ℕ} → s .end ≡ At q → length img ≤ q → Fine ≡ verdictOf img
+  unfolding verdictOf decode
+  is-fine {q} e h =
+      let g = ends-got (rw e at (w .ends)) in
+      let n : drop q img ≡ [] = drop-of-length-le img h in
+      let r : store .read img ≡ got (g .0) [] = g .1 ∙ ap (got (g .0)) n in
+      rw (le-ltb 65536 (length img) short, r)
+
+  pub is-longer : {q : ℕ} → s .end ≡ At q → q < length img → Broken ≡ verdictOf img
+  unfolding verdictOf decode
+  is-longer {q} e h =
+      let g = ends-got (rw e at (w .ends)) in
+      let r : store .read img ≡ got (g .0) (getD img q 0 ∷ drop (suc q) img) = g .1 ∙ ap (got (g .0)) (drop-cons img q 0 h) in
+      rw (le-ltb 65536 (length img) short, r)
+
+  pub is-broken : {f : Fault} → s .end ≡ Stop f → Broken ≡ verdictOf img
+  unfolding verdictOf decode
+  is-broken e =
+      let r = ends-fault (rw e at (w .ends)) in
+      rw (le-ltb 65536 (length img) short, r)
+
+pub is-long : (img : List ℕ) → 65536 < length img → TooLong ≡ verdictOf img
+unfolding verdictOf
+is-long img h = rw (lt-ltb 65536 (length img) h)

@@ -13,3 +13,4 @@ pub mod StoreLayout
 pub mod Gathering
 pub mod Survey
 pub mod RoundTrip
+pub mod Verdict

@@ -1,11 +1,13 @@
 // The one pass over an image.
 ghost use Rattle.image.specs.Places.{Ends, inodeBefore};
 ghost use Rattle.image.specs.Survey.{tailAfter, Surveys};
+ghost use Rattle.image.specs.Verdict.{Judges};
 use crate::batch::InodeLayerStack;
 use crate::batch::gather_queue;
 use crate::batch::pushed;
 use crate::field::pass_number;
 use crate::inode::Held;
+use crate::inode::Place;
 use crate::inode::find_inode;
 use crate::inode::inode_after;
 use wire::cursor::Cursor;
@@ -52,4 +54,62 @@ fn pass_tail(img: &[u8], at: Cursor, any: bool, last: u64) -> Cursor
     let operations = pass_number(img, bytes, 0xFFFF_FFFF);
     let request = pass_number(img, operations, 0xFFFF_FFFF);
     pass_number(img, request, 5)
+}
+
+// Whether an image may be used.
+pub enum Verdict {
+    Fine,
+    TooLong,
+    Broken,
+}
+
+pub struct ImageRead {
+    pub survey: Survey,
+    pub verdict: Verdict,
+}
+
+// The one pass that every call starts with. Where the image is refused, the survey says nothing.
+pub fn read_image(img: &[u8], sought: u64) -> ImageRead
+    ensures { λ r. ⌜ Judges (now (img .entry)) sought r ⌝ }
+{
+    if 65536 < img.len() {
+        return ImageRead {
+            survey: no_survey(),
+            verdict: Verdict::TooLong,
+        };
+    }
+    let survey = survey_store(img, sought);
+    let end = survey.end;
+    match end {
+        Cursor::At(place) => {
+            if place < img.len() {
+                return ImageRead {
+                    survey,
+                    verdict: Verdict::Broken,
+                };
+            }
+            ImageRead {
+                survey,
+                verdict: Verdict::Fine,
+            }
+        }
+        Cursor::Stop(_) => ImageRead {
+            survey,
+            verdict: Verdict::Broken,
+        },
+    }
+}
+
+fn no_survey() -> Survey {
+    Survey {
+        stack: InodeLayerStack {
+            base: Place::Nowhere,
+            deltas: [0; 17],
+            count: 0,
+        },
+        batches: Cursor::At(0),
+        live: Cursor::At(0),
+        tail: Cursor::At(0),
+        end: Cursor::At(0),
+    }
 }
