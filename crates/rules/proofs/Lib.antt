@@ -12,3 +12,5 @@ pub mod Claims
 pub mod Examples
 pub mod Cases
 pub mod Applied
+pub mod EachRow
+pub mod Recount
