@@ -14,3 +14,4 @@ pub mod Cases
 pub mod Applied
 pub mod EachRow
 pub mod Recount
+pub mod FoldFits

@@ -8,6 +8,7 @@ pub mod FileAttrs
 pub mod Views
 pub mod Asks
 pub mod Calls
+pub mod Arguments
 pub mod Changes
 pub mod Normalise
 pub mod Queue
