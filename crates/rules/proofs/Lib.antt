@@ -15,3 +15,4 @@ pub mod Applied
 pub mod EachRow
 pub mod Recount
 pub mod FoldFits
+pub mod LiveFits
