@@ -2,9 +2,8 @@
 use mathlib.Core.Option.{Option, none, some}
 use mathlib.Core.List.{List, [], _∷_}
 use mathlib.Core.Bool.{Bool, true, false, cond}
-use Prim.Native.Nat.{ℕ, _≤_, _<_}
+use Prim.Native.Nat.{ℕ}
 use native.Mathlib.Omega.{arith}
-use Rattle.wire.specs.Orders.{byBytes}
 use Rattle.wire.specs.Time.{epoch}
 use Rattle.wire.specs.Maps.{meet}
 use Rattle.wire.specs.Lists.{Every}
@@ -12,7 +11,7 @@ use Rattle.image.specs.Meaning.{Special, Kind, Entries, Attributes, Body, Meta,
 use Rattle.image.specs.Fits.{IfGiven, FitsInode, FitsWord, FitsName, FitsValue, FitsTime, FitsSize, FitsTarget, FitsDevice, MapFits, MetaFits, BodyFits, NodeFits, ChangesFits, FieldsFits, ChangeFits, RecordFits, LayerFits}
 use Rattle.rules.specs.Initial.{Initial}
 use Rattle.rules.specs.Arguments.{FitsInitial}
-use Rattle.rules.specs.Fold.{given, cut, addAll, removeAll, alterAll, onMeta, firstDevice, onBody, firstBody, firstMeta, firstNode, applied, sameKind, foldRecord}
+use Rattle.rules.specs.Fold.{given, cut, addAll, removeAll, alterAll, onMeta, firstDevice, onBody, firstBody, firstMeta, applied, sameKind, foldRecord}
 use Rattle.rules.specs.Queue.{foldLayer, foldAll}
 use Rattle.rules.proofs.EachRow.{Any, empty-fits, merge-fits}
 

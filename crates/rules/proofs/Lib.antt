@@ -16,3 +16,6 @@ pub mod EachRow
 pub mod Recount
 pub mod FoldFits
 pub mod LiveFits
+pub mod Unrefused
+pub mod StoreFits
+pub mod ResultImage

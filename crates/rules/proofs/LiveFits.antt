@@ -5,7 +5,7 @@ use Prim.Native.Nat.{ℕ}
 use native.Mathlib.Omega.{arith}
 use Rattle.wire.specs.declared.time.Time.{Time}
 use Rattle.wire.specs.Orders.{byNumber, byBytes}
-use Rattle.wire.specs.Maps.{Map, empty, get, put}
+use Rattle.wire.specs.Maps.{empty, get, put}
 use Rattle.image.specs.Meaning.{Text, Kind, Entries, Names, Base, Changes, Fields, Change, Record, Layer, directory, file, symlink, special, tombstone, delta}
 use Rattle.image.specs.Fits.{IfGiven, FitsInode, FitsWord, FitsName, FitsTime, MapFits, ChangesFits, FieldsFits, ChangeFits, RecordFits, LayerFits}
 use Rattle.rules.specs.Reads.{orElse, look, type, child}

@@ -2,7 +2,7 @@
 use mathlib.Core.Option.{Option, none, some}
 use mathlib.Core.List.{List, [], _∷_, _++_}
 use mathlib.Core.Logic.{⊎-elim}
-use Prim.Native.Nat.{ℕ, _^_, _≤_, _<_}
+use Prim.Native.Nat.{ℕ, _≤_}
 use native.Mathlib.Omega.{arith}
 use lib.ListN.{length, length-append}
 use Rattle.wire.specs.Codec.{Codec}
@@ -13,12 +13,12 @@ use Rattle.wire.specs.Order.{Order}
 use Rattle.wire.specs.Orders.{byNumber, byBytes}
 use Rattle.wire.specs.Maps.{Map}
 use Rattle.wire.specs.Lists.{Every, chain-write, row, onto}
-use Rattle.image.specs.Meaning.{Text, Body, Meta, Node, Base, Changes, Fields, Change, Record, Layer, Batch, Store, directory, file, symlink, special, tombstone, delta}
-use Rattle.image.specs.Fits.{IfGiven, FitsInode, FitsName, FitsValue, MapFits, MetaFits, BodyFits, NodeFits, ChangesFits, FieldsFits, ChangeFits, RecordFits, LayerFits, BatchFits, StoreFits}
+use Rattle.image.specs.Meaning.{Text, Body, Meta, Node, Changes, Fields, Change, Record, Layer, Batch, Store, directory, file, symlink, special, tombstone, delta}
+use Rattle.image.specs.Fits.{IfGiven, FitsInode, FitsName, MapFits, MetaFits, BodyFits, NodeFits, ChangesFits, FieldsFits, ChangeFits, RecordFits, LayerFits, BatchFits, StoreFits}
 use Rattle.image.specs.Masks.{maybe}
-use Rattle.image.specs.FieldLayout.{inode, name, value, listed, entries, attributes}
+use Rattle.image.specs.FieldLayout.{inode, name, value, attributes}
 use Rattle.image.specs.NodeLayout.{bodyPart, bodyPartOf, meta, node, base}
-use Rattle.image.specs.RecordLayout.{changes, names, fields, changePart, changePartOf, layerRecord, records}
+use Rattle.image.specs.RecordLayout.{changes, fields, changePart, changePartOf, layerRecord, records}
 use Rattle.image.specs.StoreLayout.{batchAfter, idOf, batches, store}
 use Rattle.image.specs.RoundTrip.{writeImage}
 use Rattle.image.specs.Meaning.{kindOf, changedKind}
@@ -93,7 +93,7 @@ module _ (C Q : ℕ → Type 0) where
   recount-changes none h u = tt
   recount-changes (some c) h u = recount-names (maybe value) c h (λ k h. u k (simp length-append (omega arith)))
 
-  recount-fields : (f : Fields) → FieldsFits C f → Upto (fields .write f) → FieldsFits Q f
+  pub recount-fields : (f : Fields) → FieldsFits C f → Upto (fields .write f) → FieldsFits Q f
   unfolding fields
   recount-fields f h u = record {
     mode = h .mode;
@@ -114,7 +114,7 @@ module _ (C Q : ℕ → Type 0) where
   recount-change (symlink target) h u = h
   recount-change (special s device) h u = h
 
-  recount-record : (r : Record) → RecordFits C r → Upto (layerRecord .write r) → RecordFits Q r
+  pub recount-record : (r : Record) → RecordFits C r → Upto (layerRecord .write r) → RecordFits Q r
   unfolding layerRecord
   recount-record tombstone h u = tt
   recount-record (delta d) h u =

@@ -1,6 +1,6 @@
 -- What the arguments of a call can be, by their types: inodes of 64 bits, texts of bytes, seconds of signed 64 bits, a delta as the layout
 -- reads it. That a name has 1 to 255 bytes and nanoseconds are below 1,000,000,000 is what refusals 3 and 4 are for.
-use Prim.Native.Nat.{ℕ, _^_, _<_}
+use Prim.Native.Nat.{_^_}
 use mir.Syntax.{w64}
 use mir.Val.{SFits}
 use Rattle.wire.specs.declared.time.Time.{Time}
