@@ -2,9 +2,7 @@
 use mathlib.Core.Path.{_≡_}
 use mathlib.Core.Option.{none, some}
 use mathlib.Core.List.{List, [], _∷_}
-use Prim.Native.Nat.{_≤_}
 use native.Mathlib.Omega.{arith}
-use lib.ListN.{length}
 use Rattle.wire.specs.Parse.{got}
 use Rattle.wire.specs.Lists.{Every}
 use Rattle.image.specs.Meaning.{Base, Fields, Record, Batch, Store, directory, file, symlink, special, pipe, character, block, socket, tombstone}
@@ -18,6 +16,7 @@ use Rattle.rules.specs.Changes.{onDirectory, adding, removing, settingPa
 use Rattle.rules.specs.Queue.{typeBelow, kept, foldFront, foldAll, snapshot}
 use Rattle.rules.specs.Refusals.{refusal}
 use Rattle.rules.specs.Outcomes.{result}
+use Rattle.rules.specs.Room.{InRoom}
 use Rattle.rules.proofs.EachRow.{Any, empty-fits, keep-fits}
 use Rattle.rules.proofs.Recount.{recount-fields, recount-record, recount-store}
 use Rattle.rules.proofs.FoldFits.{layer-fits, all-fit}
@@ -35,11 +34,7 @@ any-fields f h = recount-fields Short Any f h (λ k l. tt)
 any-store : (s : Store) → FitsStore s → StoreFits Any s
 any-store s h = recount-store Short Any s h (λ k l. tt)
 
--- document 01's longest image
-abbrev pub InRoom : Store → Type 0
-InRoom s = length (writeImage s) ≤ 65536
-
--- and in so few bytes, counts are below 2^32
+-- in at most 65,536 bytes, counts are below 2^32
 in-room : (s : Store) → InRoom s → StoreFits Any s → FitsStore s
 in-room s room h = recount-store Any Short s h (λ k l. omega arith)
 

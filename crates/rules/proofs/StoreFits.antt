@@ -109,7 +109,7 @@ frozen-fits t s f few n h = record {
   batches = record {
     count = omega (arith, length-append (s .batches) (frozenBatch t s ∷ []));
     each = every-append (BatchFits Any) (s .batches) (frozenBatch t s) (h .batches .each)
-        (record { id = h .next; bytes = h .bytes; operations = h .operations; reason = reason-fits (s .request) (h .request); committed = f; records = h .live });
+        (record { id = h .next; bytes = omega (arith, h .bytes); operations = omega (arith, h .operations); reason = reason-fits (s .request) (h .request); committed = f; records = h .live });
     rising = rising-append (s .batches) (frozenBatch t s) (h .batches .rising) (h .ids);
   };
   live = empty-fits;

@@ -17,3 +17,4 @@ pub mod Outcomes
 pub mod Table
 pub mod Orderly
 pub mod Demand
+pub mod Room
