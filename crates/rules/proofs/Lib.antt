@@ -19,4 +19,4 @@ pub mod LiveFits
 pub mod Unrefused
 pub mod StoreFits
 pub mod ResultImage
-pub mod AfterImage
+pub mod ListImage
