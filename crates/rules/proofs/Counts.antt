@@ -4,10 +4,9 @@ use mathlib.Core.Option.{none, some}
 use mathlib.Core.List.{List, [], _∷_, _++_}
 use Prim.Native.Nat.{ℕ, zero, suc, _+_}
 use native.Mathlib.Omega.{arith}
-use Rattle.wire.specs.declared.time.Time.{Time}
 use Rattle.image.specs.Meaning.{Base, Layer, Batch, Store}
 use Rattle.rules.specs.Initial.{Initial}
-use Rattle.rules.specs.Calls.{Limits, Call}
+use Rattle.rules.specs.Calls.{Call}
 use Rattle.rules.specs.Normalise.{normalBatches}
 use Rattle.rules.specs.Queue.{popped}
 use Rattle.rules.specs.Outcomes.{result}

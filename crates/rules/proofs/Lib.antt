@@ -9,6 +9,7 @@ pub mod Normal
 pub mod Demand
 pub mod Counts
 pub mod Claims
+pub mod Widths
 pub mod Examples
 pub mod Cases
 pub mod Applied
