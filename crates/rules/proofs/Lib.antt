@@ -9,6 +9,15 @@ pub mod Normal
 pub mod Demand
 pub mod Counts
 pub mod Claims
+pub mod Widths
 pub mod Examples
 pub mod Cases
 pub mod Applied
+pub mod EachRow
+pub mod Recount
+pub mod FoldFits
+pub mod LiveFits
+pub mod Unrefused
+pub mod StoreFits
+pub mod ResultImage
+pub mod ListImage

@@ -8,6 +8,7 @@ pub mod FileAttrs
 pub mod Views
 pub mod Asks
 pub mod Calls
+pub mod Arguments
 pub mod Changes
 pub mod Normalise
 pub mod Queue
@@ -16,3 +17,4 @@ pub mod Outcomes
 pub mod Table
 pub mod Orderly
 pub mod Demand
+pub mod Room
