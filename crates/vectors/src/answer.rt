@@ -4,6 +4,10 @@ use crate::line::decimal;
 use crate::line::same;
 use crate::line::word;
 use crate::show;
+use image::batch::InodeLayerStack;
+use image::inode::Place;
+use image::store::Verdict;
+use image::store::read_image;
 use wire::cursor::Cursor;
 use wire::number::put_number;
 use wire::number::read_number;
@@ -29,6 +33,9 @@ pub fn answer(line: &[u8]) {
     }
     if same(call, b"compare") {
         order(line);
+    }
+    if same(call, b"image") {
+        image(line);
     }
     show::text(b"\n");
 }
@@ -110,5 +117,39 @@ fn order(line: &[u8]) {
         Ordering::Less => show::text(b"less"),
         Ordering::Equal => show::text(b"equal"),
         Ordering::Greater => show::text(b"greater"),
+    }
+}
+
+fn image(line: &[u8]) {
+    show::text(b" = ");
+    let mut input = [0u8; 512];
+    let length = bytes(word(line, 2), &mut input);
+    let read = read_image(part(&input, 0, length), decimal(word(line, 1)));
+    let verdict = read.verdict;
+    match verdict {
+        Verdict::Fine => {
+            let survey = read.survey;
+            stack(survey.stack);
+        }
+        Verdict::TooLong => show::text(b"refused 1"),
+        Verdict::Broken => show::text(b"refused 2"),
+    }
+}
+
+// The place of the node, then those of the records.
+fn stack(found: InodeLayerStack) {
+    let base = found.base;
+    match base {
+        Place::At(place) => show::number(place as u64),
+        Place::Nowhere => show::text(b"-"),
+    }
+    let deltas = found.deltas;
+    let mut i = 0;
+    while i < 17 {
+        if i < found.count {
+            show::text(b" ");
+            show::number(deltas[i] as u64);
+        }
+        i += 1;
     }
 }

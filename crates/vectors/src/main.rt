@@ -5,6 +5,7 @@
 //     text LEAST MOST BYTES        where the text starts, its length, the bytes it took, and how it is written
 //     time BYTES                   the seconds and nanoseconds, the bytes it took, and how it is written
 //     compare BYTES START LENGTH NAME     a part of the bytes against a name
+//     image INODE BYTES            the place of the inode's node, '-' for none, and of its records, front batch first; or the refusal
 mod answer;
 mod line;
 mod show;
