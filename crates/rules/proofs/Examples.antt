@@ -15,6 +15,7 @@ use Rattle.wire.specs.Maps.{empty, get, put, over, merge, keep}
 use Rattle.image.specs.Meaning.{Text, Fields, Change, Record, Store, directory, file, symlink, special, tombstone, delta}
 use Rattle.image.specs.FieldLayout.{size}
 use Rattle.image.specs.StoreLayout.{batches, store}
+use Rattle.image.specs.Verdict.{refusalOf, verdictOf}
 use Rattle.image.specs.RoundTrip.{readImage, writeImage, one-image, cut-image}
 use Rattle.rules.specs.Initial.{usual}
 use Rattle.rules.specs.Fold.{sameKind, foldRecord}
@@ -79,12 +80,19 @@ s11 = run (Call.add 5 a 7 epoch ∷ Call.remove 5 b epoch ∷ Call.normalise 0 �
 
 -- ---- the entries
 
-abbrev P1 : List Claim
-P1 = claim (readImage (0 ∷ 0 ∷ 0 ∷ 1 ∷ 0 ∷ 0 ∷ 0 ∷ [])) (got emptyStore []) ∷ []
+abbrev empty-image : List ℕ
+empty-image = 0 ∷ 0 ∷ 0 ∷ 1 ∷ 0 ∷ 0 ∷ 0 ∷ []
 
--- "without its last byte, 2": it is not read
+abbrev cut-empty : List ℕ
+cut-empty = 0 ∷ 0 ∷ 0 ∷ 1 ∷ 0 ∷ 0 ∷ []
+
+-- "`00 00 00 01 00 00 00` is the empty store"
+abbrev P1 : List Claim
+P1 = claim (readImage empty-image) (got emptyStore []) ∷ claim (refusalOf (verdictOf empty-image)) none ∷ []
+
+-- "without its last byte, 2"
 abbrev P2 : List Claim
-P2 = claim (readImage (0 ∷ 0 ∷ 0 ∷ 1 ∷ 0 ∷ 0 ∷ [])) (fault Ended) ∷ []
+P2 = claim (readImage cut-empty) (fault Ended) ∷ claim (refusalOf (verdictOf cut-empty)) (some 2) ∷ []
 
 -- "number `80 00`, bad"
 abbrev P3 : List Claim
@@ -157,15 +165,23 @@ table = P1 ∷ P2 ∷ P3 ∷ P4 ∷ P5 ∷ P6 ∷ P7 ∷ P8 ∷ P9 ∷ P10 ∷ P
 
 -- ---- they hold: P1 and P2 by the round trip, all others by computing
 
-p1 : readImage (0 ∷ 0 ∷ 0 ∷ 1 ∷ 0 ∷ 0 ∷ 0 ∷ []) ≡ got emptyStore []
+p1 : readImage empty-image ≡ got emptyStore []
 unfolding store batches empty numberBytes groups
 p1 =
-    let written : writeImage emptyStore ≡ 0 ∷ 0 ∷ 0 ∷ 1 ∷ 0 ∷ 0 ∷ 0 ∷ [] = refl in
+    let written : writeImage emptyStore ≡ empty-image = refl in
     rw (← written) (one-image emptyStore (omega arith) .0)
 
-p2 : readImage (0 ∷ 0 ∷ 0 ∷ 1 ∷ 0 ∷ 0 ∷ []) ≡ fault Ended
-p2 = cut-image (0 ∷ 0 ∷ 0 ∷ 1 ∷ 0 ∷ 0 ∷ []) (0 ∷ []) emptyStore p1 (λ e. let z : _≡_ {A = ℕ} 0 1 = cc in omega arith)
+p1-fine : refusalOf (verdictOf empty-image) ≡ none
+unfolding verdictOf
+p1-fine = rw p1
+
+p2 : readImage cut-empty ≡ fault Ended
+p2 = cut-image cut-empty (0 ∷ []) emptyStore p1 (λ e. let z : _≡_ {A = ℕ} 0 1 = cc in omega arith)
+
+p2-refused : refusalOf (verdictOf cut-empty) ≡ some 2
+unfolding verdictOf
+p2-refused = rw p2
 
 pub table-holds : HoldAll table
 unfolding reply after change result look stackOn get put merge over keep set insert remove lookup empty foldRecord sameKind foldAll snapshot normalLayer normalBatches normalLive number-read groups-read long
-table-holds = ((p1, tt), ((p2, tt), ((refl, tt), ((refl, (refl, tt)), ((refl, (refl, (refl, tt))), ((refl, (refl, tt)), ((refl, (refl, tt)), ((refl, tt), ((refl, (refl, tt)), ((refl, (refl, tt)), ((refl, tt), ((refl, (refl, (refl, (refl, (refl, (refl, tt)))))), tt))))))))))))
+table-holds = ((p1, (p1-fine, tt)), ((p2, (p2-refused, tt)), ((refl, tt), ((refl, (refl, tt)), ((refl, (refl, (refl, tt))), ((refl, (refl, tt)), ((refl, (refl, tt)), ((refl, tt), ((refl, (refl, tt)), ((refl, (refl, tt)), ((refl, tt), ((refl, (refl, (refl, (refl, (refl, (refl, tt)))))), tt))))))))))))
