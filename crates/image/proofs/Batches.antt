@@ -17,7 +17,7 @@ use Rattle.wire.specs.Orders.{byNumber}
 use Rattle.wire.specs.Lists.{after}
 use Rattle.wire.specs.Reading.{Answers, run}
 use Rattle.image.specs.FieldLayout.{inode, word, moment}
-use Rattle.image.specs.RecordLayout.{layerRecord, records}
+use Rattle.image.specs.RecordLayout.{records}
 use Rattle.image.specs.StoreLayout.{batchRest}
 use Rattle.image.specs.Places.{Ends, inodeBefore, rowsFrom, lastOf}
 use Rattle.image.specs.Held.{placeOf, Finds}

@@ -2,9 +2,9 @@
 -- Assumes nothing.
 use mathlib.Core.Path.{_≡_, refl, sym, ap, _∙_}
 use mathlib.Core.Bool.{Bool, true, false}
-use mathlib.Core.List.{List, [], _∷_}
+use mathlib.Core.List.{List, _∷_}
 use mathlib.Core.Option.{Option, none, some}
-use Prim.Native.Nat.{ℕ, zero, suc, _+_, _-_, _≤_, _<_}
+use Prim.Native.Nat.{ℕ, zero, suc, _-_, _≤_, _<_}
 use native.Mathlib.Omega.{arith}
 use lib.Dec.{leb}
 use lib.ListN.{length, drop}
@@ -15,9 +15,9 @@ use Rattle.wire.specs.declared.cursor.Cursor.the-variants.{At, Stop}
 use Rattle.wire.specs.Parse.{Parsed, fault, got, bind, check, never-got}
 use Rattle.wire.specs.Codec.{Codec}
 use Rattle.wire.specs.Combinators.{only, opt-read}
-use Rattle.wire.specs.Number.{edge, number-read, numberTo}
+use Rattle.wire.specs.Number.{edge, number-read}
 use Rattle.wire.specs.Order.{Order}
-use Rattle.wire.specs.Maps.{Map, asMap, asMap-rows}
+use Rattle.wire.specs.Maps.{Map, asMap-rows}
 use Rattle.wire.specs.Lists.{after, row, rows, rising, rising-read, all-rising}
 use Rattle.wire.specs.Reading.{Reads, Answers, run, give, cursorIn}
 use Rattle.wire.proofs.Readers.{read-then, read-stop}

@@ -9,18 +9,17 @@ use native.Mathlib.Omega.{arith}
 use lib.Dec.{ltb}
 use lib.ListN.{length, getD, drop, drop-of-length-le}
 use lib.Seq.{drop-cons}
-use borrow.Author.Tests.{lt-ltb, le-ltb, ltb-true, ltb-false}
+use borrow.Author.Tests.{lt-ltb, le-ltb, ltb-false}
 use Rattle.wire.specs.declared.cursor.Fault.{Fault}
 use Rattle.wire.specs.declared.cursor.Fault.the-variants.{Malformed}
 use Rattle.wire.specs.declared.cursor.Cursor.{Cursor}
 use Rattle.wire.specs.declared.cursor.Cursor.the-variants.{At, Stop}
-use Rattle.wire.specs.declared.order.Ordering.{Ordering}
 use Rattle.wire.specs.declared.order.Ordering.the-variants.{Less, Equal, Greater}
 use Rattle.wire.specs.Parse.{Parsed, fault, got, bind, check, never-got}
 use Rattle.wire.specs.Codec.{Codec, decode}
 use Rattle.wire.specs.Combinators.{_then_, seq, only}
 use Rattle.wire.specs.Number.{number-read, numberTo}
-use Rattle.wire.specs.Orders.{byNumber, cmpN, Says, says}
+use Rattle.wire.specs.Orders.{byNumber, cmpN, says}
 use Rattle.wire.specs.Rows.{Under, Rising}
 use Rattle.wire.specs.Lists.{chain-read, row, after, isLess, all-rising}
 use Rattle.wire.specs.Reading.{run}

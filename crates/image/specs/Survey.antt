@@ -3,14 +3,12 @@ use mathlib.Core.Path.{_≡_, refl}
 use mathlib.Core.List.{List, _++_}
 use mathlib.Core.Option.{Option}
 use Prim.Native.Nat.{ℕ}
-use Rattle.wire.specs.declared.cursor.Cursor.{Cursor}
 use Rattle.wire.specs.declared.cursor.Cursor.the-variants as C
 use Rattle.wire.specs.Codec.{Codec}
 use Rattle.wire.specs.Combinators.{_then_, only}
 use Rattle.wire.specs.Number.{numberTo}
 use Rattle.wire.specs.Orders.{byNumber}
 use Rattle.wire.specs.Lists.{after}
-use Rattle.image.specs.Meaning.{Layer}
 use Rattle.image.specs.FieldLayout.{inode, word}
 use Rattle.image.specs.NodeLayout.{node, base}
 use Rattle.image.specs.RecordLayout.{layerRecord, records}

@@ -3,7 +3,6 @@ ghost use Prim.Native.Nat.{_≤_};
 ghost use mathlib.Core.Path.{_≡_, refl};
 ghost use lib.ListN.{length};
 ghost use Rattle.wire.specs.Number.{between};
-ghost use Rattle.wire.specs.Reading.{cursorIn};
 ghost use Rattle.image.specs.Places.{Ends};
 ghost use Rattle.image.specs.Held.{placeOf};
 ghost use Rattle.image.specs.Gathering.{Pushed, Gathers, GathersQueue};
@@ -66,7 +65,7 @@ fn pass_reason(img: &[u8], at: Cursor) -> Cursor
 }
 
 // Passes `count` batches, the first of which is at `first`, and pushes the places of the records that they hold of one inode.
-pub fn gather_batches(
+fn gather_batches(
     img: &[u8],
     first: usize,
     count: u64,

@@ -11,9 +11,9 @@ use mir.Syntax.{w64}
 use mir.Val.{Fits}
 use lib.ListN.{length, getD, drop, drop-of-length-le}
 use lib.Seq.{drop-cons}
-use borrow.Author.Tests.{lt-ltb, le-ltb, le-leb, lt-leb, eqb-true, ne-eqb}
+use borrow.Author.Tests.{lt-ltb, le-ltb, le-leb, lt-leb, ne-eqb}
 use Rattle.wire.specs.Parse.{Parsed, fault, got}
-use Rattle.wire.specs.Number.{edge, tenth, groups-read, scaled, upTo, number-read, number-rest, lt-or-ge}
+use Rattle.wire.specs.Number.{tenth, groups-read, scaled, upTo, number-read, number-rest, lt-or-ge}
 use Rattle.wire.specs.Reading.{Answers, run, noNumber, judgedNumber, lastGroup}
 use Rattle.wire.specs.declared.cursor.Fault.{Fault}
 use Rattle.wire.specs.declared.cursor.Fault.the-variants.{Ended, Malformed}

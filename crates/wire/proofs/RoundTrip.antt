@@ -1,12 +1,11 @@
 -- Both round-trip laws on the contracts of the code, for every format: numbers with any limit, texts with any bounds, times.
 -- Assumes nothing.
-use mathlib.Core.Path.{_≡_, refl, sym, ap, _∙_}
+use mathlib.Core.Path.{_≡_, ap, _∙_}
 use mathlib.Core.List.{List, _++_, append-assoc}
 use Prim.Native.Nat.{ℕ, _+_, _-_, _≤_}
-use native.Mathlib.Nat.{add-sub-cancel-left}
 use native.Mathlib.Omega.{arith}
 use lib.ListN.{length, take, drop, length-append, length-drop}
-use lib.Seq.{take-append-seam, length-take-le, drop-at, drop-append-add}
+use lib.Seq.{take-append-seam, length-take-le, drop-at}
 use Rattle.wire.specs.Codec.{Codec}
 use Rattle.wire.specs.Reading.{Reads, part}
 use Rattle.wire.specs.Put.{Put}

@@ -1,7 +1,7 @@
 -- Finite maps: rows in rising order, with the proof that they rise, so that two maps with the same answers are equal.
 -- One changing operation, `merge`, serves every place where one map is put over another: entries added, entries removed,
 -- attribute changes, a layer of records over a base.
-use mathlib.Core.Path.{_≡_, refl, sym, _∙_, ap}
+use mathlib.Core.Path.{_≡_, refl}
 use mathlib.Core.Option.{Option, none, some}
 use mathlib.Core.List.{List, [], _∷_}
 use mathlib.Core.Bool.{Bool, true, false}

@@ -1,5 +1,4 @@
 use borrow.Author.Needs.{needs}
-use mathlib.Core.Option.{none}
 use Rattle.wire.specs.Orders.{byBytes}
 use Rattle.image.specs.FieldLayout.{name}
 use Rattle.image.specs.Under.{under}

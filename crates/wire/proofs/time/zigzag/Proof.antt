@@ -1,4 +1,3 @@
-use borrow.Author.Needs.{needs}
 use Rattle.wire.proofs.Signs.{negative-fits, negative-cast, negative-double, negative-odd, negative-zigzag, positive-cast, positive-double, positive-zigzag}
 use Rattle.wire.proofs.time.zigzag.Statement.{statement}
 use Rattle.wire.proofs.time.zigzag.Tie as tie
