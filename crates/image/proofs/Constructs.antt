@@ -2,7 +2,7 @@
 -- Assumes nothing.
 use mathlib.Core.Path.{_≡_, refl}
 use mathlib.Core.List.{List}
-use Prim.Native.Nat.{ℕ, zero, suc, _-_}
+use Prim.Native.Nat.{ℕ, zero, suc, _-_, _<_}
 use native.Mathlib.Omega.{arith}
 use Rattle.wire.specs.declared.cursor.Cursor.{Cursor}
 use Rattle.wire.specs.Parse.{got, bind}
@@ -65,3 +65,14 @@ passes-delta zero z f b = absurd (z refl)
 passes-delta (suc n) z f b =
     let e : suc n - 1 ≡ n = omega arith in
     ends-then (fields .read) (changePart (kindAt n) .read) (λ a b. (a, b)) f (rw e at b)
+
+-- a number that is none from 0 to 6
+pub above-six : (n : ℕ) → (n ≡ 0 → ⊥) → (n ≡ 1 → ⊥) → (n ≡ 2 → ⊥) → (n ≡ 3 → ⊥) → (n ≡ 4 → ⊥) → (n ≡ 5 → ⊥) → (n ≡ 6 → ⊥) → 6 < n
+above-six zero a b c d e f g = absurd (a refl)
+above-six (suc zero) a b c d e f g = absurd (b refl)
+above-six (suc (suc zero)) a b c d e f g = absurd (c refl)
+above-six (suc (suc (suc zero))) a b c d e f g = absurd (d refl)
+above-six (suc (suc (suc (suc zero)))) a b c d e f g = absurd (e refl)
+above-six (suc (suc (suc (suc (suc zero))))) a b c d e f g = absurd (f refl)
+above-six (suc (suc (suc (suc (suc (suc zero)))))) a b c d e f g = absurd (g refl)
+above-six (suc (suc (suc (suc (suc (suc (suc n))))))) a b c d e f g = omega arith

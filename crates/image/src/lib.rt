@@ -2,6 +2,7 @@
 pub mod batch;
 pub mod field;
 pub mod inode;
+pub mod kind;
 pub mod name;
 pub mod node;
 pub mod record;
