@@ -41,7 +41,7 @@ suffix-on {img} w t h =
     }
 
 -- what a codec leaves
-suffix-rest : {A : Type 0} (c : Codec A) {img s r : List ℕ} {a : A} → Suffix img s → c .read s ≡ got a r → Suffix img r
+pub suffix-rest : {A : Type 0} (c : Codec A) {img s r : List ℕ} {a : A} → Suffix img s → c .read s ≡ got a r → Suffix img r
 suffix-rest c {img} {s} {r} {a} h e = suffix-on (c .write a) r (rw (c .forth s a r e .0) at h)
 
 module _ {K A : Type 0} (O : Order K) (key : Codec K) (value : Codec A) (img : List ℕ) (k : K) where
@@ -56,12 +56,12 @@ module _ {K A : Type 0} (O : Order K) (key : Codec K) (value : Codec A) (img : L
   here Equal p w {q = q} u e h = (q, rw (← (u .is)) e)
 
   -- a row's key and what stands under it
-  record Row (s : List ℕ) (e : K × A) (q : List ℕ) : Type 0 where
-    mid : List ℕ
-    keyed : key .read s ≡ got (e .0) mid
-    valued : value .read mid ≡ got (e .1) q
+  pub record Row (s : List ℕ) (e : K × A) (q : List ℕ) : Type 0 where
+    pub mid : List ℕ
+    pub keyed : key .read s ≡ got (e .0) mid
+    pub valued : value .read mid ≡ got (e .1) q
 
-  apart : (prev : Option K) (s : List ℕ) {e : K × A} {q : List ℕ} → row O key value prev .read s ≡ got e q → Row s e q
+  pub apart : (prev : Option K) (s : List ℕ) {e : K × A} {q : List ℕ} → row O key value prev .read s ≡ got e q → Row s e q
   apart prev s {e} {q} d =
       let i = bind-inv (only (after O prev) key .read s) (λ a r. bind (value .read r) (λ b t. got (pair a b) t)) d in
       let j = bind-inv (value .read (i .1)) (λ b t. got (pair (i .0) b) t) (i .3) in

@@ -6,3 +6,4 @@ pub mod Inodes
 pub mod Holding
 pub mod Batches
 pub mod Stores
+pub mod Surveyed

@@ -44,11 +44,11 @@ use Rattle.image.proofs.Batches.{ends-from}
 
 -- ---- batches are rows by id
 
-unfoldable batchesOf : List (ℕ × BatchRest) → List Batch
+unfoldable pub batchesOf : List (ℕ × BatchRest) → List Batch
 batchesOf [] = []
 batchesOf (p ∷ l) = batchOf p ∷ batchesOf l
 
-abbrev batchesRead : Parsed (List (ℕ × BatchRest)) → Parsed (List Batch)
+abbrev pub batchesRead : Parsed (List (ℕ × BatchRest)) → Parsed (List Batch)
 batchesRead o = bind o (λ l r. got (batchesOf l) r)
 
 made : (p : ℕ × BatchRest) (o : Parsed (List (ℕ × BatchRest))) → bind (batchesRead o) (λ l q. got (batchOf p ∷ l) q) ≡ batchesRead (bind o (λ l q. got (p ∷ l) q))
@@ -75,7 +75,7 @@ counted-made : (o : Parsed ℕ) → bind o (λ n r. chain-read batchAfter idOf n
 counted-made (fault f) = refl
 counted-made (got n r) = chain-batches n none r
 
-batches-rows : (s : List ℕ) → batches .read s ≡ batchesRead (queueRows .read s)
+pub batches-rows : (s : List ℕ) → batches .read s ≡ batchesRead (queueRows .read s)
 unfolding batches
 batches-rows s = counted-made (number-read 16 s)
 
@@ -141,7 +141,7 @@ afterBatches p s =
     bind (records .read s) (λ a r.
     bind (bind (p r) (λ i t. bind ((word then word then numberTo 5 refl) .read t) (λ b q. got (i, b) q))) (λ b q. got (a, b) q))
 
-abbrev restOf : List Batch → Codec (Layer × (ℕ × (ℕ × (ℕ × ℕ))))
+abbrev pub restOf : List Batch → Codec (Layer × (ℕ × (ℕ × (ℕ × ℕ))))
 restOf bs = records then nextId bs then word then word then numberTo 5 refl
 
 rest-same : (l : List (ℕ × BatchRest)) (s : List ℕ) → Rising byNumber l → restOf (batchesOf l) .read s ≡ (records then tailAfter (lastKey none l)) .read s
