@@ -1,16 +1,13 @@
 -- Lists that stay in the image. Document 01: "`HashMap`, `BTreeMap`, `Vec` become sorted lists in the image."
 use mathlib.Core.Path.{_≡_, refl}
-use mathlib.Core.Bool.{cond}
 use mathlib.Core.List.{List}
 use mathlib.Core.Option.{Option, none, some}
 use Prim.Native.Nat.{ℕ, _+_, _-_, _≤_}
-use lib.Dec.{leb}
 use lib.ListN.{length, drop}
 use Rattle.wire.specs.declared.cursor.Cursor.{Cursor}
 use Rattle.wire.specs.declared.cursor.Cursor.the-variants as C
 use Rattle.wire.specs.Parse.{Parsed, fault, got}
 use Rattle.wire.specs.Codec.{Codec}
-use Rattle.wire.specs.Order.{Order}
 use Rattle.wire.specs.Orders.{byBytes}
 use Rattle.wire.specs.Maps.{Map, empty}
 use Rattle.wire.specs.Lists.{rising, lastCount}
@@ -26,18 +23,22 @@ abbrev pub readOr : {A : Type 0} → A → Parsed A → A
 readOr z (fault f) = z
 readOr z (got a r) = a
 
-module _ {K A : Type 0} {O : Order K} (img : List ℕ) (c : Codec (Map O A)) where
-  -- the list at a place; where there is none, the empty one
-  abbrev pub listAt : Part → Map O A
-  listAt p = readOr (empty O) (c .read (drop (p .start) img))
+-- a list by name, its count first
+abbrev pub byName : (u : Under) → Codec (Map byBytes (UnderName u))
+byName u = rising byBytes name (under u) lastCount refl
 
-  abbrev pub listOf : OptionPart → Option (Map O A)
+module _ (img : List ℕ) (u : Under) where
+  -- the list at a place; where there is none, the empty one
+  abbrev pub listAt : Part → Map byBytes (UnderName u)
+  listAt p = readOr (empty byBytes) (byName u .read (drop (p .start) img))
+
+  abbrev pub listOf : OptionPart → Option (Map byBytes (UnderName u))
   listOf (P.Some p) = some (listAt p)
   listOf P.None = none
 
   -- there is a list at the place, and it ends at `end`
   pub record Listed (p : Part) (end : ℕ) : Type 0 where
-    pub is : c .read (drop (p .start) img) ≡ got (listAt p) (drop end img)
+    pub is : byName u .read (drop (p .start) img) ≡ got (listAt p) (drop end img)
     pub ends : p .start + p .length ≡ end
     pub inside : end ≤ length img
 
@@ -50,19 +51,15 @@ abbrev pub IfAt : Cursor → (ℕ → Type 0) → Type 0
 IfAt (C.At q) P = P q
 IfAt (C.Stop f) P = Unit {0}
 
--- a list by name, its count first
-abbrev pub byName : (u : Under) → Codec (Map byBytes (UnderName u))
-byName u = rising byBytes name (under u) lastCount refl
-
 pub record ReadsNames (img : List ℕ) (u : Under) (at : Cursor) (p : Part) (next : Cursor) : Type 0 where
-  pub reads : Reads img (byName u .read) at (listAt img (byName u) p) next
-  pub listed : IfAt next (Listed img (byName u) p)
-
-abbrev pub noPart : Part
-noPart = record { start = 0; «length» = 0 }
+  pub reads : Reads img (byName u .read) at (listAt img u p) next
+  pub listed : IfAt next (Listed img u p)
 
 -- the part from one place to another
+abbrev pub partFrom : ℕ → ℕ → Part
+partFrom start end = record { start = start; «length» = end - start }
+
 abbrev pub between : Cursor → Cursor → Part
-between (C.At n) (C.At q) = cond (leb n q) (record { start = n; «length» = q - n }) noPart
-between (C.At n) (C.Stop f) = noPart
-between (C.Stop f) to = noPart
+between (C.At n) (C.At q) = partFrom n q
+between (C.At n) (C.Stop f) = partFrom 0 0
+between (C.Stop f) to = partFrom 0 0

@@ -1,7 +1,8 @@
 // The changes of attributes that a delta carries.
 ghost use Prim.Native.Nat.{_≤_};
+ghost use mathlib.Core.Path.{_≡_};
 ghost use Rattle.wire.specs.Reading.{cursorIn};
-ghost use Rattle.nodes.specs.Attrs.{ReadsAttr, ReadsLater, ReadsChanges};
+ghost use Rattle.nodes.specs.Attrs.{attrDelta, ReadsAttr, ReadsLater, ReadsChanges};
 use crate::option::OptionPart;
 use crate::option::OptionPartRead;
 use crate::option::OptionTime;
@@ -33,28 +34,28 @@ pub struct AttrDeltaRead {
 
 // The mask at `at` and the fields that it says are there.
 pub fn read_attr_delta(img: &[u8], at: Cursor) -> AttrDeltaRead
-    ensures { λ r. ⌜ ReadsAttr (now (img .entry)) at (r .attr_delta) (r .next) ⌝ }
+    ensures { λ r. ⌜ ReadsAttr (now (img .entry)) at (r .«attr_delta») (r .next) ⌝ }
 {
     let mask = read_number(img, at, 511);
     let start = mask.next;
     let bits = mask.value;
-    let mode = read_u32_if(img, start, bits % 2);
-    let owner = mode.next;
-    let uid = read_u32_if(img, owner, bits / 2 % 2);
-    let group = uid.next;
-    let gid = read_u32_if(img, group, bits / 2 / 2 % 2);
-    let links = gid.next;
-    let nlink = read_u32_if(img, links, bits / 2 / 2 / 2 % 2);
-    let times = nlink.next;
-    let mode_given = mode.option;
-    let uid_given = uid.option;
-    let gid_given = gid.option;
-    let nlink_given = nlink.option;
+    let first = read_u32_if(img, start, bits % 2);
+    let mode = first.option;
+    let owner = first.next;
+    let second = read_u32_if(img, owner, bits / 2 % 2);
+    let uid = second.option;
+    let group = second.next;
+    let third = read_u32_if(img, group, bits / 2 / 2 % 2);
+    let gid = third.option;
+    let links = third.next;
+    let fourth = read_u32_if(img, links, bits / 2 / 2 / 2 % 2);
+    let nlink = fourth.option;
+    let times = fourth.next;
     let words = Words {
-        mode: mode_given,
-        uid: uid_given,
-        gid: gid_given,
-        nlink: nlink_given,
+        mode,
+        uid,
+        gid,
+        nlink,
     };
     read_later(img, times, bits / 2 / 2 / 2 / 2, words)
 }
@@ -70,31 +71,65 @@ pub struct Words {
 // The times and the attribute changes that the upper bits of a mask say are there, after the first four fields.
 fn read_later(img: &[u8], at: Cursor, bits: u64, words: Words) -> AttrDeltaRead
     requires { ⌜ (bits ≤ 31) × cursorIn (now img) at ⌝ }
-    ensures { λ r. ⌜ ReadsLater (now (img .entry)) at bits words (r .attr_delta) (r .next) ⌝ }
+    ensures { λ r. ⌜ ReadsLater (now (img .entry)) at bits words (r .«attr_delta») (r .next) ⌝ }
 {
-    let atime = read_time_if(img, at, bits % 2);
-    let modified = atime.next;
-    let mtime = read_time_if(img, modified, bits / 2 % 2);
-    let changed = mtime.next;
-    let ctime = read_time_if(img, changed, bits / 2 / 2 % 2);
-    let created = ctime.next;
-    let created_at = read_time_if(img, created, bits / 2 / 2 / 2 % 2);
-    let attributes = created_at.next;
-    let xattrs = read_changes_if(img, attributes, bits / 2 / 2 / 2 / 2);
-    let next = xattrs.next;
+    let first = read_time_if(img, at, bits % 2);
+    let atime = first.option;
+    let modified = first.next;
+    let second = read_time_if(img, modified, bits / 2 % 2);
+    let mtime = second.option;
+    let changed = second.next;
+    let third = read_time_if(img, changed, bits / 2 / 2 % 2);
+    let ctime = third.option;
+    let created = third.next;
+    let fourth = read_time_if(img, created, bits / 2 / 2 / 2 % 2);
+    let created_at = fourth.option;
+    let attributes = fourth.next;
+    let times = Times {
+        atime,
+        mtime,
+        ctime,
+        created_at,
+    };
+    let list = read_changes_if(img, attributes, bits / 2 / 2 / 2 / 2);
+    let xattrs = list.option;
+    let next = list.next;
     AttrDeltaRead {
-        attr_delta: AttrDelta {
-            mode: words.mode,
-            uid: words.uid,
-            gid: words.gid,
-            nlink: words.nlink,
-            atime: atime.option,
-            mtime: mtime.option,
-            ctime: ctime.option,
-            created_at: created_at.option,
-            xattrs: xattrs.option,
-        },
+        attr_delta: attr_delta_of(words, times, xattrs),
         next,
+    }
+}
+
+// The four times.
+pub struct Times {
+    pub atime: OptionTime,
+    pub mtime: OptionTime,
+    pub ctime: OptionTime,
+    pub created_at: OptionTime,
+}
+
+// The fields, put together.
+fn attr_delta_of(words: Words, times: Times, xattrs: OptionPart) -> AttrDelta
+    ensures { λ r. ⌜ r ≡ attrDelta words times xattrs ⌝ }
+{
+    let mode = words.mode;
+    let uid = words.uid;
+    let gid = words.gid;
+    let nlink = words.nlink;
+    let atime = times.atime;
+    let mtime = times.mtime;
+    let ctime = times.ctime;
+    let created_at = times.created_at;
+    AttrDelta {
+        mode,
+        uid,
+        gid,
+        nlink,
+        atime,
+        mtime,
+        ctime,
+        created_at,
+        xattrs,
     }
 }
 

@@ -1,6 +1,6 @@
 // Parts of the image: texts, and lists by name.
 ghost use mathlib.Core.Path.{_≡_};
-ghost use Rattle.nodes.specs.Listed.{between, ReadsNames};
+ghost use Rattle.nodes.specs.Listed.{partFrom, between, ReadsNames};
 use image::name::Under;
 use image::name::pass_names;
 use wire::cursor::Cursor;
@@ -27,22 +27,27 @@ pub fn read_names(img: &[u8], at: Cursor, what: Under) -> PartRead
     }
 }
 
-// The part from one place to another; none where a reading stopped.
+// The part from one place to another; an empty one where a reading stopped.
 fn part_between(from: Cursor, to: Cursor) -> Part
     ensures { λ r. ⌜ r ≡ between from to ⌝ }
 {
-    if let Cursor::At(start) = from {
-        if let Cursor::At(end) = to {
-            if start <= end {
-                return Part {
-                    start,
-                    length: end - start,
-                };
-            }
-        }
+    match from {
+        Cursor::At(start) => match to {
+            Cursor::At(end) => part_from(start, end),
+            Cursor::Stop(_) => part_from(0, 0),
+        },
+        Cursor::Stop(_) => part_from(0, 0),
+    }
+}
+
+fn part_from(start: usize, end: usize) -> Part
+    ensures { λ r. ⌜ r ≡ partFrom start end ⌝ }
+{
+    if end < start {
+        return Part { start, length: 0 };
     }
     Part {
-        start: 0,
-        length: 0,
+        start,
+        length: end - start,
     }
 }
