@@ -1,14 +1,14 @@
 -- How values are read: what is there or not, and lists that stay in the image.
 -- Assumes nothing.
-use mathlib.Core.Path.{_≡_, ap}
+use mathlib.Core.Path.{_≡_, refl, sym, ap, _∙_}
 use mathlib.Core.List.{List}
 use mathlib.Core.Option.{Option, none, some}
-use Prim.Native.Nat.{ℕ, _+_, _-_, _≤_}
+use Prim.Native.Nat.{ℕ, _+_, _-_, _/_, _%_, _≤_}
 use native.Mathlib.Omega.{arith}
 use lib.ListN.{length, drop, length-append, length-drop}
 use Rattle.wire.specs.declared.cursor.Cursor.{Cursor}
 use Rattle.wire.specs.declared.cursor.Cursor.the-variants.{At, Stop}
-use Rattle.wire.specs.Parse.{Parsed, got, bind, never-got}
+use Rattle.wire.specs.Parse.{Parsed, fault, got, bind, never-got}
 use Rattle.wire.specs.Codec.{Codec}
 use Rattle.wire.specs.Combinators.{opt-read}
 use Rattle.wire.specs.Number.{numberBytes, number-read, number-one}
@@ -19,11 +19,17 @@ use Rattle.wire.proofs.Readers.{read-then, read-end}
 use Rattle.image.specs.declared.name.Under.{Under}
 use Rattle.image.specs.declared.name.Under.the-variants.{Change}
 use Rattle.image.specs.Under.{UnderName}
+use Rattle.image.specs.Meaning.{Fields}
+use Rattle.image.specs.Masks.{flag}
+use Rattle.image.specs.FieldLayout.{word}
+use Rattle.image.specs.RecordLayout.{laterFlags, flags, fields, fieldsOf}
 use Rattle.image.specs.Places.{Ends, maybe-read}
 use Rattle.image.proofs.Passing.{ends-got, ends-fault}
 use Rattle.nodes.specs.declared.part.Part.{Part}
 use Rattle.nodes.specs.declared.option.OptionPart.the-variants as P
-use Rattle.nodes.specs.Attrs.{ReadsChanges}
+use Rattle.nodes.specs.declared.attr.Words.{Words}
+use Rattle.nodes.specs.Options.{wordOf}
+use Rattle.nodes.specs.Attrs.{ReadsChanges, laterRead}
 use Rattle.nodes.specs.Listed.{listAt, Listed, IfAt, byName, ReadsNames, between, partFrom}
 
 -- a field that is there, or not
@@ -52,6 +58,28 @@ pub reads-pair : {A B : Type 0} {img : List ℕ} (p : List ℕ → Parsed A) (q 
     → Reads img p at a mid → Reads img q mid b next → Reads {A = A × B} img (λ s. bind (p s) (λ a r. bind (q r) (λ b t. got (a, b) t))) at (a, b) next
 reads-pair {img = img} p q {a = a} h g = read-then img p _ h (reads-made q (λ b. (a, b)) g)
 
+-- a reader that says the same of all bytes
+reads-same : {A : Type 0} {img : List ℕ} {p q : List ℕ → Parsed A} (at : Cursor) {a : A} {next : Cursor} → ((s : List ℕ) → p s ≡ q s) → Reads img p at a next
+    → Reads img q at a next
+reads-same {img = img} (At n) e h = record { same = sym (e (drop n img)) ∙ h .same; within = h .within }
+reads-same (Stop f) e h = record { same = h .same; within = h .within }
+
+inward : {A B C : Type 0} (k : A → List ℕ → Parsed B) (j : B → List ℕ → Parsed C) (o : Parsed A) → bind o (λ a r. bind (k a r) j) ≡ bind (bind o k) j
+inward k j (fault f) = refl
+inward k j (got a r) = refl
+
+-- a value is made of the first field, which says what follows
+pub reads-tag : {A B C : Type 0} {img : List ℕ} (p : List ℕ → Parsed A) (k : A → List ℕ → Parsed B) (j : B → List ℕ → Parsed C) {at mid next : Cursor} {a : A} {c : C}
+    → Reads img p at a mid → Reads img (λ s. bind (k a s) j) mid c next → Reads img (λ s. bind (bind (p s) k) j) at c next
+reads-tag {img = img} p k j {at} h g = reads-same at (λ s. inward k j (p s)) (read-then img p _ h g)
+
+-- where it stands before what follows
+pub reads-first : {A B C : Type 0} {img : List ℕ} (p : List ℕ → Parsed A) (q : List ℕ → Parsed B) (j : A × B → List ℕ → Parsed C) {at mid next : Cursor} {a : A} {c : C}
+    → Reads img p at a mid → Reads img (λ s. bind (q s) (λ b t. j (a, b) t)) mid c next
+    → Reads img (λ s. bind (bind (p s) (λ a r. bind (q r) (λ b t. got (a, b) t))) j) at c next
+reads-first p q j {mid = mid} {a = a} h g =
+    reads-tag p (λ a r. bind (q r) (λ b t. got (a, b) t)) j h (reads-same mid (λ s. inward (λ b t. got (a, b) t) j (q s)) g)
+
 -- ---- lists by name
 
 -- a list is at least one byte long: its count
@@ -78,14 +106,15 @@ module _ {img : List ℕ} (u : Under) where
       go (At n) (At q) h = record {
         reads = record { same = list-is h; within = h .within };
         listed = record { is = list-is h; ends = omega (arith, list-forth h); inside = h .within };
+        place = refl;
       }
-      go (At n) (Stop f) h = record { reads = record { same = ends-fault {p = byName u .read} {n = n} {f = f} h; within = tt }; listed = tt }
+      go (At n) (Stop f) h = record { reads = record { same = ends-fault {p = byName u .read} {n = n} {f = f} h; within = tt }; listed = tt; place = refl }
       go (Stop f) (At q) h = never-got (h .same)
-      go (Stop f) (Stop g) h = let z = h .same in let y : f ≡ g = cc in record { reads = record { same = rw y; within = tt }; listed = tt }
+      go (Stop f) (Stop g) h = let z = h .same in let y : f ≡ g = cc in record { reads = record { same = rw y; within = tt }; listed = tt; place = refl }
 
 -- ---- attribute changes
 
-nowhere : (c : Cursor) → IfAt c (λ q. Unit {0})
+pub nowhere : (c : Cursor) → IfAt c (λ q. Unit {0})
 nowhere (At q) = tt
 nowhere (Stop f) = tt
 
@@ -95,3 +124,24 @@ module _ {img : List ℕ} {at : Cursor} {bit : ℕ} where
 
   pub some-changes : {next : Cursor} {p : Part} → (bit ≡ 0 → ⊥) → bit ≤ 1 → ReadsNames img Change at p next → ReadsChanges img at bit (P.Some p) next
   some-changes n l h = record { reads = reads-some _ n l (h .reads); listed = h .listed }
+
+-- ---- the mask and the fields
+
+abbrev bit : ℕ → List ℕ → Parsed (Option ℕ)
+bit b = opt-read (number-read 4294967295) (b % 2)
+
+module _ {img : List ℕ} {m : ℕ} {f : Fields} {at c0 c1 c2 c3 c4 next : Cursor} where
+  pub reads-fields : (w : Words) → Answers img (number-read 511) at 0 m c0 → Reads img (bit m) c0 (wordOf (w .mode)) c1 → Reads img (bit (m / 2)) c1 (wordOf (w .uid)) c2
+      → Reads img (bit (m / 2 / 2)) c2 (wordOf (w .gid)) c3 → Reads img (bit (m / 2 / 2 / 2)) c3 (wordOf (w .nlink)) c4
+      → Reads img (laterRead (m / 2 / 2 / 2 / 2) w) c4 f next → Reads img (fields .read) at f next
+  unfolding fields
+  reads-fields w h x y z n l =
+      let k1 = flag word laterFlags in
+      let k2 = flag word k1 in
+      let k3 = flag word k2 in
+      reads-tag (number-read 511) (λ m r. flags .at m .read r) (λ p r. got (fieldsOf p) r) (h .reads)
+      (reads-first (bit m) (k3 .at (m / 2) .read) (λ p r. got (fieldsOf p) r) x
+      (reads-first (bit (m / 2)) (k2 .at (m / 2 / 2) .read) (λ p r. got (fieldsOf (wordOf (w .mode), p)) r) y
+      (reads-first (bit (m / 2 / 2)) (k1 .at (m / 2 / 2 / 2) .read) (λ p r. got (fieldsOf (wordOf (w .mode), (wordOf (w .uid), p))) r) z
+      (reads-first (bit (m / 2 / 2 / 2)) (laterFlags .at (m / 2 / 2 / 2 / 2) .read)
+      (λ p r. got (fieldsOf (wordOf (w .mode), (wordOf (w .uid), (wordOf (w .gid), p)))) r) n l))))

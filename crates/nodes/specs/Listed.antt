@@ -51,10 +51,6 @@ abbrev pub IfAt : Cursor → (ℕ → Type 0) → Type 0
 IfAt (C.At q) P = P q
 IfAt (C.Stop f) P = Unit {0}
 
-pub record ReadsNames (img : List ℕ) (u : Under) (at : Cursor) (p : Part) (next : Cursor) : Type 0 where
-  pub reads : Reads img (byName u .read) at (listAt img u p) next
-  pub listed : IfAt next (Listed img u p)
-
 -- the part from one place to another
 abbrev pub partFrom : ℕ → ℕ → Part
 partFrom start end = record { start = start; «length» = end - start }
@@ -63,3 +59,8 @@ abbrev pub between : Cursor → Cursor → Part
 between (C.At n) (C.At q) = partFrom n q
 between (C.At n) (C.Stop f) = partFrom 0 0
 between (C.Stop f) to = partFrom 0 0
+
+pub record ReadsNames (img : List ℕ) (u : Under) (at : Cursor) (p : Part) (next : Cursor) : Type 0 where
+  pub reads : Reads img (byName u .read) at (listAt img u p) next
+  pub listed : IfAt next (Listed img u p)
+  pub place : p ≡ between at next

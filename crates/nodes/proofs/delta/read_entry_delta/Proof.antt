@@ -1,0 +1,32 @@
+use borrow.Author.Needs.{needs}
+use Rattle.nodes.proofs.delta.read_entry_delta.Statement.{statement}
+use Rattle.nodes.proofs.delta.read_entry_delta.Tie as tie
+
+read-number-requires : tie.Need-read-number-requires
+read-number-requires c κs = search needs
+
+returns : tie.Need-returns
+returns c = ?
+
+read-attr-delta-requires : tie.Need-read-attr-delta-requires
+read-attr-delta-requires c κs = search needs
+
+sub-read-node-delta : tie.Need-sub-read-node-delta
+sub-read-node-delta c = search needs
+
+read-node-delta-requires : tie.Need-read-node-delta-requires
+read-node-delta-requires c κs = search needs
+
+returns-2 : tie.Need-returns-2
+returns-2 c = ?
+
+pub read-entry-delta-spec : {M : Type 1} → statement M
+read-entry-delta-spec =
+    tie.close
+    (tie.spec
+    read-number-requires
+    returns
+    read-attr-delta-requires
+    sub-read-node-delta
+    read-node-delta-requires
+    returns-2)
