@@ -1,1 +1,3 @@
+-- Laws that the proofs of more than one function use, and that the crates above cite.
+pub mod Reading
 pub mod Values
