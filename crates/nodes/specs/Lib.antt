@@ -2,3 +2,4 @@
 pub mod Options
 pub mod Listed
 pub mod Attrs
+pub mod Nodes

@@ -1,5 +1,6 @@
 // Nodes and records by value, with the Rust's names: each is read at its place and written again. Texts and lists stay in the image, as
 // places beside the value.
 pub mod attr;
+pub mod node;
 pub mod option;
 pub mod part;
