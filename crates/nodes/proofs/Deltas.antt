@@ -2,31 +2,37 @@
 -- Assumes nothing.
 use mathlib.Core.Path.{_≡_, refl, ap}
 use mathlib.Core.List.{List}
-use Prim.Native.Nat.{ℕ, zero, suc, _≤_}
+use mathlib.Core.Option.{some}
+use Prim.Native.Nat.{ℕ, zero, suc, _+_, _≤_}
 use native.Mathlib.Omega.{arith}
+use lib.ListN.{length}
 use Rattle.wire.specs.declared.cursor.Cursor.{Cursor}
 use Rattle.wire.specs.declared.cursor.Cursor.the-variants.{At, Stop}
-use Rattle.wire.specs.Parse.{never-got}
+use Rattle.wire.specs.Parse.{got, bind, never-got}
 use Rattle.wire.specs.Number.{edge, number-read}
 use Rattle.wire.specs.Lists.{lastCount}
-use Rattle.wire.specs.Reading.{Reads}
+use Rattle.wire.specs.Reading.{Reads, Answers}
+use Rattle.wire.proofs.Readers.{read-then, read-end}
 use Rattle.image.specs.declared.name.Under.the-variants.{Inode, Nothing}
-use Rattle.image.specs.Meaning.{Special, directory, special, pipe, character, block, socket, delta}
-use Rattle.image.specs.RecordLayout.{changeOf}
-use Rattle.image.specs.KindLayout.{kindAt}
+use Rattle.image.specs.Meaning.{Special, directory, special, pipe, character, block, socket, Record, delta}
+use Rattle.image.specs.RecordLayout.{fields, changeOf, changePart, codePart, recordAt, layerRecord}
+use Rattle.image.specs.KindLayout.{kindAt, codeAt, code}
 use Rattle.image.specs.Places.{maybe-read}
+use Rattle.image.proofs.Constructs.{reads-coded}
 use Rattle.nodes.specs.Options.{numberOf}
 use Rattle.nodes.specs.Listed.{IfAt, Listed, ReadsNames}
-use Rattle.nodes.specs.Attrs.{fieldsMeant}
-use Rattle.nodes.specs.Deltas.{ReadsDelta, specialDelta}
+use Rattle.nodes.specs.Attrs.{fieldsMeant, ReadsAttr}
+use Rattle.nodes.specs.Deltas.{ReadsDelta, ReadsEntry, AttrListed, fieldsLength, specialDelta}
 use Rattle.nodes.specs.declared.attr.AttrDelta.{AttrDelta}
 use Rattle.nodes.specs.declared.part.Part.{Part}
 use Rattle.nodes.specs.declared.option.OptionU64.{OptionU64}
 use Rattle.nodes.specs.declared.delta.DirectoryDelta.{DirectoryDelta}
 use Rattle.nodes.specs.declared.delta.SpecialDelta.{SpecialDelta}
 use Rattle.nodes.specs.declared.delta.NodeDelta.{NodeDelta}
+use Rattle.nodes.specs.declared.delta.EntryDelta.the-variants as E
 use Rattle.nodes.specs.declared.delta.NodeDelta.the-variants.{Directory, Socket}
-use Rattle.nodes.proofs.Values.{reads-made, reads-pair, nowhere}
+use Rattle.nodes.proofs.Values.{reads-made, reads-pair, reads-first, reads-same, bind-bind, nowhere}
+use Rattle.nodes.proofs.Reading.{reads-length, reads-byte}
 
 -- the removed names come right after the added entries
 module _ {img : List ℕ} (d : DirectoryDelta) where
@@ -69,3 +75,44 @@ socket-delta (suc (suc (suc zero))) d a b c = absurd (a refl)
 socket-delta (suc (suc (suc (suc zero)))) d a b c = absurd (b refl)
 socket-delta (suc (suc (suc (suc (suc zero))))) d a b c = absurd (c refl)
 socket-delta (suc (suc (suc (suc (suc (suc n)))))) d a b c = refl
+
+-- ---- records
+
+-- the code, and what it says
+record-read : (s : List ℕ) → bind (code .read s) (λ c r. bind (codePart c .read r) (λ p t. got (recordAt c p) t)) ≡ layerRecord .read s
+unfolding layerRecord
+record-read s = simp bind-bind
+
+module _ {img : List ℕ} {n : ℕ} {at start : Cursor} (h : Answers img (number-read 7) at 0 n start) where
+  coded : {next : Cursor} {r : Record} → Reads img (λ s. bind (codePart (codeAt n) .read s) (λ p t. got (recordAt (codeAt n) p) t)) start r next
+      → Reads img (layerRecord .read) at r next
+  unfolding code
+  coded g = reads-same at record-read (read-then img _ _ (reads-coded 7 codeAt h) g)
+
+  pub reads-tombstone : n ≡ 0 → ReadsEntry img at E.Tombstone start
+  reads-tombstone e = record {
+    reads = coded (rw e (reads-made _ _ (read-end img (h .reads .within))));
+    attributes = λ p d. nowhere start;
+    lists = nowhere start;
+  }
+
+  module _ {m : ℕ} {a : AttrDelta} {o : NodeDelta} where
+    -- the attribute changes end where the fields do, which start after one byte
+    changes-end : (mid next : Cursor) → ReadsAttr img start a mid → ReadsDelta img mid (kindAt m) a o next → (p : ℕ) → at ≡ At p
+        → IfAt next (λ q. AttrListed img (E.Node o) (p + 1 + fieldsLength img (E.Node o)))
+    changes-end mid (Stop f) g d p e = tt
+    changes-end (Stop f) (At q) g d p e = never-got (d .reads .same)
+    changes-end (At i) (At q) g d p e =
+        let s = after-code start p e g in
+        let z : i ≡ p + 1 + length (fields .write (fieldsMeant img a)) = s in
+        rw (d .attr) (rw z at (g .listed))
+      where
+        after-code : (s : Cursor) (p : ℕ) → at ≡ At p → ReadsAttr img s a (At i) → i ≡ p + 1 + length (fields .write (fieldsMeant img a))
+        after-code s p e g = ?
+
+    pub reads-delta : {mid next : Cursor} → n ≡ suc m → ReadsAttr img start a mid → ReadsDelta img mid (kindAt m) a o next → ReadsEntry img at (E.Node o) next
+    reads-delta {mid} {next} e g d = record {
+      reads = coded (rw e (reads-first (fields .read) (changePart (kindAt m) .read) (λ x t. got (recordAt (some (kindAt m)) x) t) (g .reads) (d .reads)));
+      attributes = changes-end mid next g d;
+      lists = d .listed;
+    }

@@ -59,26 +59,26 @@ pub reads-pair : {A B : Type 0} {img : List ℕ} (p : List ℕ → Parsed A) (q 
 reads-pair {img = img} p q {a = a} h g = read-then img p _ h (reads-made q (λ b. (a, b)) g)
 
 -- a reader that says the same of all bytes
-reads-same : {A : Type 0} {img : List ℕ} {p q : List ℕ → Parsed A} (at : Cursor) {a : A} {next : Cursor} → ((s : List ℕ) → p s ≡ q s) → Reads img p at a next
+pub reads-same : {A : Type 0} {img : List ℕ} {p q : List ℕ → Parsed A} (at : Cursor) {a : A} {next : Cursor} → ((s : List ℕ) → p s ≡ q s) → Reads img p at a next
     → Reads img q at a next
 reads-same {img = img} (At n) e h = record { same = sym (e (drop n img)) ∙ h .same; within = h .within }
 reads-same (Stop f) e h = record { same = h .same; within = h .within }
 
-inward : {A B C : Type 0} (k : A → List ℕ → Parsed B) (j : B → List ℕ → Parsed C) (o : Parsed A) → bind o (λ a r. bind (k a r) j) ≡ bind (bind o k) j
-inward k j (fault f) = refl
-inward k j (got a r) = refl
+pub bind-bind : {A B C : Type 0} (o : Parsed A) (f : A → List ℕ → Parsed B) (g : B → List ℕ → Parsed C) → bind (bind o f) g ≡ bind o (λ a r. bind (f a r) g)
+bind-bind (fault y) f g = refl
+bind-bind (got a r) f g = refl
 
 -- a value is made of the first field, which says what follows
 pub reads-tag : {A B C : Type 0} {img : List ℕ} (p : List ℕ → Parsed A) (k : A → List ℕ → Parsed B) (j : B → List ℕ → Parsed C) {at mid next : Cursor} {a : A} {c : C}
     → Reads img p at a mid → Reads img (λ s. bind (k a s) j) mid c next → Reads img (λ s. bind (bind (p s) k) j) at c next
-reads-tag {img = img} p k j {at} h g = reads-same at (λ s. inward k j (p s)) (read-then img p _ h g)
+reads-tag {img = img} p k j {at} h g = reads-same at (λ s. sym (bind-bind (p s) k j)) (read-then img p _ h g)
 
 -- where it stands before what follows
 pub reads-first : {A B C : Type 0} {img : List ℕ} (p : List ℕ → Parsed A) (q : List ℕ → Parsed B) (j : A × B → List ℕ → Parsed C) {at mid next : Cursor} {a : A} {c : C}
     → Reads img p at a mid → Reads img (λ s. bind (q s) (λ b t. j (a, b) t)) mid c next
     → Reads img (λ s. bind (bind (p s) (λ a r. bind (q r) (λ b t. got (a, b) t))) j) at c next
 reads-first p q j {mid = mid} {a = a} h g =
-    reads-tag p (λ a r. bind (q r) (λ b t. got (a, b) t)) j h (reads-same mid (λ s. inward (λ b t. got (a, b) t) j (q s)) g)
+    reads-tag p (λ a r. bind (q r) (λ b t. got (a, b) t)) j h (reads-same mid (λ s. sym (bind-bind (q s) (λ b t. got (a, b) t) j)) g)
 
 -- ---- lists by name
 

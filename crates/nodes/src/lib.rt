@@ -2,5 +2,6 @@
 // places beside the value.
 pub mod attr;
 pub mod delta;
+pub mod node;
 pub mod option;
 pub mod part;
