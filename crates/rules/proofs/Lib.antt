@@ -21,3 +21,6 @@ pub mod Unrefused
 pub mod StoreFits
 pub mod ResultImage
 pub mod ListImage
+pub mod MapValues
+pub mod Forgotten
+pub mod PlacedStack
