@@ -24,3 +24,5 @@ pub mod ListImage
 pub mod MapValues
 pub mod Forgotten
 pub mod PlacedStack
+pub mod Standing
+pub mod Asked
