@@ -3,10 +3,10 @@ use mathlib.Core.Path.{_≡_, refl, sym, ap, _∙_}
 use mathlib.Core.Option.{Option, none, some}
 use mathlib.Core.List.{List, [], _∷_, map}
 use mathlib.Core.Bool.{Bool, true, false, cond}
-use Prim.Native.Nat.{ℕ, _≤_}
+use Prim.Native.Nat.{ℕ, suc, _≤_}
 use native.Mathlib.Omega.{arith}
 use lib.Dec.{ltb}
-use lib.ListN.{length}
+use lib.ListN.{length, length-map}
 use borrow.Author.Tests.{le-ltb, ltb-false}
 use Rattle.wire.specs.Parse.{Parsed, fault, got, never-got}
 use Rattle.wire.specs.Codec.{whole, decode}
@@ -17,18 +17,16 @@ use Rattle.image.specs.Meaning.{Text, Kind, Entries, Attributes, Store, directo
 use Rattle.image.specs.StoreLayout.{store}
 use Rattle.image.specs.RoundTrip.{readImage}
 use Rattle.image.specs.Verdict.{refusalOf, verdictOf, judge}
-use Rattle.image.specs.declared.store.Verdict.{Verdict}
 use Rattle.image.specs.declared.store.Verdict.the-variants as D
 use Rattle.rules.specs.Initial.{Initial}
-use Rattle.rules.specs.Answers.{Answer, refused, answer, firstOf, unless}
+use Rattle.rules.specs.Answers.{Answer, refused, firstOf, unless}
 use Rattle.rules.specs.Stacks.{stack, layers}
 use Rattle.rules.specs.Reads.{look, entries, values}
 use Rattle.rules.specs.FileAttrs.{FileAttr}
 use Rattle.rules.specs.Views.{ifDirectory, listed, valued, viewAt}
-use Rattle.rules.specs.Asks.{Ask, Reply, rowsOf, nameRows, namesOf, fewRows, reply, ask}
+use Rattle.rules.specs.Asks.{Ask, rowsOf, nameRows, namesOf, fewRows, reply, ask}
 use Rattle.rules.specs.Changes.{mapIf}
 use Rattle.rules.specs.Starts.{Started}
-use Rattle.rules.specs.PlacedReads.{lookPlaced, placedEntries, placedValues}
 use Rattle.rules.specs.PlacedStacks.{placedRecords, placedNode}
 use Rattle.rules.specs.ReadCalls.{ofStore, overImage, mapAnswer, Row, rowOf, entryRows, attributeRows, named, asked}
 use Rattle.rules.proofs.MapValues.{mapRow, map-rows}
@@ -99,6 +97,10 @@ map-names : {A : Type 0} (l : List (Text × A)) → map (mapRow byBytes (λ (a :
 map-names [] = refl
 map-names (e ∷ l) = ap (λ (t : List (Text × ℕ)). (e .0, 0) ∷ t) (map-names l)
 
+length-names : {A : Type 0} (l : List (Text × A)) → length (nameRows l) ≡ length l
+length-names [] = refl
+length-names (e ∷ l) = ap suc (length-names l)
+
 -- rows of a list with starts, by the list without
 rows-of : {A : Type 0} (img : List ℕ) (f : A → ℕ) (m : Started A) (n : Map byBytes A) → Standing img m → forgotten m ≡ n
     → map (named img) (map (rowOf f) (m .rows)) ≡ map (mapRow byBytes f) (n .rows)
@@ -120,6 +122,14 @@ module _ (img : List ℕ) (i : ℕ) {s : Store} (e : readImage img ≡ got s [])
       rows-of img (λ value. 0) _ _ (placed-values-stand img i)
       (rw (placed-stack img i e, placed-node img i e) at (values-forgotten (placedRecords img i) (placedNode img i)))
       ∙ map-names (look values (stack i (layers s)) (get byNumber i (s .base)) .rows)
+
+  -- so refusal 5 may be judged by either
+  pub entry-count : length (entryRows img i) ≡ length (look entries (stack i (layers s)) (get byNumber i (s .base)) .rows)
+  entry-count = sym (length-map (entryRows img i) (named img)) ∙ ap length entry-rows
+
+  pub attribute-count : length (attributeRows img i) ≡ length (look values (stack i (layers s)) (get byNumber i (s .base)) .rows)
+  attribute-count =
+      sym (length-map (attributeRows img i) (named img)) ∙ ap length attribute-rows ∙ length-names (look values (stack i (layers s)) (get byNumber i (s .base)) .rows)
 
 -- ---- listings
 

@@ -2,9 +2,7 @@
 use mathlib.Core.Path.{_≡_, refl, _∙_, ap}
 use mathlib.Core.Option.{Option, none, some}
 use mathlib.Core.List.{List, [], _∷_, map}
-use Prim.Native.Nat.{ℕ, _+_}
-use lib.ListN.{length}
-use Rattle.wire.specs.Number.{numberBytes}
+use Prim.Native.Nat.{ℕ}
 use Rattle.wire.specs.Codec.{Codec}
 use Rattle.wire.specs.Orders.{byBytes}
 use Rattle.wire.specs.Maps.{Map, meet, merge, get, map-ext}
@@ -17,7 +15,7 @@ use Rattle.rules.specs.Reads.{look, entries, bodyEntries, changeEntries,
 use Rattle.rules.specs.Changes.{mapIf}
 use Rattle.rules.specs.Starts.{Placed, Started, startRows, starts, attributesAt, entriesAt, changesAt, addedAt}
 use Rattle.rules.specs.PlacedReads.{lookPlaced, bodyStarts, changeStarts, recordStarts, placedEntries, setStart, alterStarts, recordValueStarts, placedValues}
-use Rattle.rules.proofs.MapValues.{mapValues, mapRow, get-map, map-empty, map-merge, map-same}
+use Rattle.rules.proofs.MapValues.{mapValues, mapRow, map-empty, map-merge, map-same}
 
 -- what stands under each name, without its start
 abbrev pub forgotten : {A : Type 0} → Started A → Map byBytes A

@@ -24,5 +24,7 @@ pub mod ListImage
 pub mod MapValues
 pub mod Forgotten
 pub mod PlacedStack
+pub mod ListPlaces
 pub mod Standing
 pub mod Asked
+pub mod ReadExamples

@@ -1,5 +1,5 @@
 -- Maps with another value under each key, over any ordered keys.
-use mathlib.Core.Path.{_≡_, refl, _∙_, ap}
+use mathlib.Core.Path.{_≡_, refl}
 use mathlib.Core.Option.{Option, none, some}
 use mathlib.Core.List.{List, [], _∷_, map}
 use Rattle.wire.specs.declared.order.Ordering.{Ordering}

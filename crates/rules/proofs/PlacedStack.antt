@@ -1,8 +1,8 @@
 -- The placed stack of an inode is the stack of its store, and a survey's places are its places.
 use mathlib.Core.Path.{_≡_, refl, sym, ap, _∙_}
 use mathlib.Core.Option.{Option, none, some}
-use mathlib.Core.List.{List, [], _∷_, _++_, map, reverse, reverseAux}
-use Prim.Native.Nat.{ℕ, _-_, _≤_}
+use mathlib.Core.List.{List, [], _∷_, _++_, reverse, reverseAux}
+use Prim.Native.Nat.{ℕ, _-_}
 use native.Mathlib.Omega.{arith}
 use lib.ListN.{length, drop, length-drop}
 use lib.Seq.{take-length}
@@ -14,11 +14,10 @@ use Rattle.wire.specs.Orders.{byNumber}
 use Rattle.wire.specs.Maps.{get}
 use Rattle.wire.specs.Reading.{run, give, cursorIn}
 use Rattle.image.specs.Meaning.{Node, Record, Layer, Batch, Store}
-use Rattle.image.specs.FieldLayout.{inode}
 use Rattle.image.specs.NodeLayout.{node, base}
 use Rattle.image.specs.RecordLayout.{layerRecord, records}
 use Rattle.image.specs.StoreLayout.{batches, store}
-use Rattle.image.specs.Places.{passed, Ends, Holds, placeIn}
+use Rattle.image.specs.Places.{passed, Ends, Holds}
 use Rattle.image.specs.Held.{placeOf}
 use Rattle.image.specs.Gathering.{deltasOf}
 use Rattle.image.specs.Survey.{Surveys}
@@ -27,9 +26,8 @@ use Rattle.image.specs.declared.store.Survey.{Survey}
 use Rattle.image.specs.declared.inode.Place.{Place}
 use Rattle.image.specs.declared.inode.Place.the-variants as P
 use Rattle.image.proofs.Holding.{suffix-drop, suffix-rest}
-use Rattle.image.proofs.Surveyed.{AllHold, ifThere, batchRecords, recordsOf, SurveyHolds, survey-holds}
+use Rattle.image.proofs.Surveyed.{AllHold, ifThere, batchRecords, recordsOf, survey-holds}
 use Rattle.rules.specs.Stacks.{over?, stackOn, stack, withLive, layers}
-use Rattle.rules.specs.Changes.{mapIf}
 use Rattle.rules.specs.Starts.{Placed}
 use Rattle.rules.specs.PlacedStacks.{cursorAfter, batchesAt, liveAt, nodePlace, recordPlaces, readAt, nodeAt, onTop, recordsOn, placedRecords, placedNode}
 use Rattle.rules.proofs.Forgotten.{unplaced, unplacedNode}

@@ -1,41 +1,35 @@
 -- A name stands in the image at its start: the part of the image there, as long as the name, is the name.
-use mathlib.Core.Path.{_≡_, refl, sym, ap, _∙_}
+use mathlib.Core.Path.{_≡_, refl, ap, _∙_}
 use mathlib.Core.Option.{Option, none, some}
 use mathlib.Core.List.{List, [], _∷_, _++_, append-assoc}
-use Prim.Native.Nat.{ℕ, _+_, _-_}
-use native.Mathlib.Omega.{arith}
-use lib.ListN.{length, take, drop, length-append}
-use lib.Seq.{drop-drop, drop-append-seam, take-append-seam}
+use Prim.Native.Nat.{ℕ, _+_}
+use lib.ListN.{length, take, drop}
+use lib.Seq.{take-append-seam}
 use Rattle.wire.specs.declared.order.Ordering.{Ordering}
 use Rattle.wire.specs.declared.order.Ordering.the-variants.{Less, Equal, Greater}
 use Rattle.wire.specs.Parse.{Parsed, fault, got}
-use Rattle.wire.specs.Number.{numberBytes, groups}
+use Rattle.wire.specs.Number.{numberBytes}
 use Rattle.wire.specs.Text.{textBytes}
 use Rattle.wire.specs.Codec.{Codec}
-use Rattle.wire.specs.Combinators.{opt-write}
 use Rattle.wire.specs.Orders.{byBytes}
 use Rattle.wire.specs.Rows.{choose, lookup, Rising}
 use Rattle.wire.specs.RowLaws.{lookup-under}
 use Rattle.wire.specs.Maps.{Map, meet, merge, empty, get, get-empty, get-merge}
 use Rattle.wire.specs.Lists.{Every, chain-write, row, onto}
 use Rattle.wire.specs.Reading.{part}
-use Rattle.image.specs.Meaning.{Text, Kind, Entries, Names, Body, Meta, Node, Changes, Fields, Change, Delta, Record, directory, file, symlink, special, pipe, character, block, socket, tombstone, delta, kindOf, changedKind}
+use Rattle.image.specs.Meaning.{Text, Names, Body, Meta, Node, Changes, Fields, Change, Delta, Record, directory, file, symlink, special, tombstone, delta}
 use Rattle.image.specs.Fits.{IfGiven}
 use Rattle.image.specs.Masks.{maybe}
-use Rattle.image.specs.FieldLayout.{inode, word, moment, name, value, listed, entries, attributes}
-use Rattle.image.specs.KindLayout.{kind, code}
-use Rattle.image.specs.NodeLayout.{meta, bodyPart, bodyPartOf, node}
+use Rattle.image.specs.FieldLayout.{inode, name, value, listed}
+use Rattle.image.specs.NodeLayout.{node}
 use Rattle.image.specs.Places.{ifRead}
-use Rattle.image.specs.RecordLayout.{changes, names, fieldParts, flags, fields, changePart, changePartOf, layerRecord}
+use Rattle.image.specs.RecordLayout.{names, layerRecord}
 use Rattle.rules.specs.Starts.{Placed, Started, startRows, starts, attributesAt, entriesAt, changesAt, addedAt}
 use Rattle.rules.specs.PlacedReads.{lookPlaced, bodyStarts, changeStarts, recordStarts, placedEntries, setStart, alterStarts, recordValueStarts, placedValues}
 use Rattle.rules.specs.PlacedStacks.{nodePlace, recordPlaces, readAt, nodeAt, onTop, recordsOn, placedRecords, placedNode}
+use Rattle.rules.proofs.ListPlaces.{on, attributes-at, changes-at, entries-at, added-at}
 
 module _ (img : List ℕ) where
-  -- what follows bytes that stand at a place
-  on : (p : ℕ) (w t : List ℕ) → drop p img ≡ w ++ t → drop (p + length w) img ≡ t
-  on p w t e = sym (drop-drop (length w) p img) ∙ ap (drop (length w)) e ∙ drop-append-seam w t
-
   abbrev pub Stands : Text → ℕ → Type 0
   Stands k start = part img start (length k) ≡ k
 
@@ -48,7 +42,7 @@ module _ (img : List ℕ) where
   name-stands : (q : ℕ) (n w t : List ℕ) → drop q img ≡ (textBytes n ++ w) ++ t → Stands n (q + length (numberBytes (length n)))
   name-stands q n w t e =
       let d : drop q img ≡ numberBytes (length n) ++ (n ++ (w ++ t)) = simp append-assoc at e in
-      ap (take (length n)) (on q (numberBytes (length n)) (n ++ (w ++ t)) d) ∙ take-append-seam n (w ++ t)
+      ap (take (length n)) (on img q (numberBytes (length n)) (n ++ (w ++ t)) d) ∙ take-append-seam n (w ++ t)
 
   module _ {A : Type 0} (value : Codec A) where
     abbrev rowsWritten : Option Text → List (Text × A) → List ℕ
@@ -62,7 +56,7 @@ module _ (img : List ℕ) where
         let w = name .write (e .0) ++ value .write (e .1) in
         let r = rowsWritten (some (e .0)) l ++ t in
         let whole : drop q img ≡ w ++ r = d ∙ append-assoc w (rowsWritten (some (e .0)) l) t in
-        go (byBytes .cmp k (e .0)) _ _ refl (name-stands q (e .0) (value .write (e .1)) r whole) (rows-stand (some (e .0)) (q + length w) l t (on q w r whole) k)
+        go (byBytes .cmp k (e .0)) _ _ refl (name-stands q (e .0) (value .write (e .1)) r whole) (rows-stand (some (e .0)) (q + length w) l t (on img q w r whole) k)
       where
         go : (c : Ordering) (start : ℕ) (o : Option (ℕ × A)) → byBytes .cmp k (e .0) ≡ c → Stands (e .0) start → IfGiven (λ x. Stands k (x .0)) o
             → IfGiven (λ x. Stands k (x .0)) (choose c (some (start, e .1)) o)
@@ -74,106 +68,7 @@ module _ (img : List ℕ) where
     unfolding get starts
     starts-stand p m t e =
         let n = numberBytes (length (m .rows)) in
-        rows-stand none (p + length n) (m .rows) t (on p n (rowsWritten none (m .rows) ++ t) (e ∙ append-assoc n (rowsWritten none (m .rows)) t))
-
--- ---- where the lists of a node and of a delta stand
-
-kind-byte : (k : Kind) → length (kind .write k) ≡ 1
-unfolding kind numberBytes groups
-kind-byte directory = refl
-kind-byte file = refl
-kind-byte symlink = refl
-kind-byte (special pipe) = refl
-kind-byte (special character) = refl
-kind-byte (special block) = refl
-kind-byte (special socket) = refl
-
-code-byte : (k : Kind) → length (code .write (some k)) ≡ 1
-unfolding code numberBytes groups
-code-byte directory = refl
-code-byte file = refl
-code-byte symlink = refl
-code-byte (special pipe) = refl
-code-byte (special character) = refl
-code-byte (special block) = refl
-code-byte (special socket) = refl
-
--- bytes that end with w
-abbrev EndsWith : List ℕ → List ℕ → Type 0
-EndsWith w s = (front : List ℕ) × (s ≡ front ++ w)
-
--- attributes are the last of a node's meta, and changes of them the last of a delta's fields
-meta-end : (m : Meta) → EndsWith (attributes .write (m .attributes)) (meta .write m)
-unfolding meta
-meta-end m = (
-  word .write (m .perm) ++ word .write (m .links) ++ word .write (m .owner) ++ word .write (m .group) ++ moment .write (m .atime) ++ moment .write (m .mtime) ++ moment .write (m .ctime),
-  simp append-assoc,
-)
-
-fields-end : (f : Fields) (cs : Changes) → f .attributes ≡ some cs → EndsWith (changes .write cs) (fields .write f)
-unfolding fields
-fields-end f cs e = (
-  numberBytes (flags .mask (fieldParts f)) ++ opt-write word (f .mode) ++ opt-write word (f .owner) ++ opt-write word (f .group) ++ opt-write word (f .links)
-  ++ opt-write moment (f .atime) ++ opt-write moment (f .mtime) ++ opt-write moment (f .ctime) ++ opt-write moment (f .created),
-  simp (e, append-assoc),
-)
-
-module _ (img : List ℕ) (p : ℕ) where
-  meta-at : (n : Node) (r : List ℕ) → node .read (drop p img) ≡ got n r
-      → drop (p + 1) img ≡ meta .write (n .meta) ++ (bodyPart (kindOf (n .body)) .write (bodyPartOf (n .body)) ++ r)
-  unfolding node
-  meta-at n r e =
-      let k = kind .write (kindOf (n .body)) in
-      let t = meta .write (n .meta) ++ (bodyPart (kindOf (n .body)) .write (bodyPartOf (n .body)) ++ r) in
-      let d : drop p img ≡ k ++ t = simp append-assoc at (node .forth (drop p img) n r e .0) in
-      rw (kind-byte (kindOf (n .body))) at (on img p k t d)
-
-  fields-at : (d : Delta) (r : List ℕ) → layerRecord .read (drop p img) ≡ got (delta d) r
-      → drop (p + 1) img ≡ fields .write (d .fields) ++ (changePart (changedKind (d .change)) .write (changePartOf (d .change)) ++ r)
-  unfolding layerRecord
-  fields-at d r e =
-      let k = code .write (some (changedKind (d .change))) in
-      let t = fields .write (d .fields) ++ (changePart (changedKind (d .change)) .write (changePartOf (d .change)) ++ r) in
-      let g : drop p img ≡ k ++ t = simp append-assoc at (layerRecord .forth (drop p img) (delta d) r e .0) in
-      rw (code-byte (changedKind (d .change))) at (on img p k t g)
-
-  -- what ends at a place, less its own length
-  ends-at : {w s : List ℕ} (q : ℕ) (t : List ℕ) → EndsWith w s → drop q img ≡ s ++ t → drop (q + length s - length w) img ≡ w ++ t
-  ends-at {w} {s} q t h e =
-      let d : drop q img ≡ h .0 ++ (w ++ t) = e ∙ ap (λ (u : List ℕ). u ++ t) (h .1) ∙ append-assoc (h .0) w t in
-      let l : length s ≡ length (h .0) + length w = ap length (h .1) ∙ length-append (h .0) w in
-      let z : q + length (h .0) ≡ q + length s - length w = omega arith in
-      rw z at (on img q (h .0) (w ++ t) d)
-
-  pub attributes-at : (n : Node) (r : List ℕ) → node .read (drop p img) ≡ got n r
-      → (t : List ℕ) × (drop (attributesAt p (n .meta)) img ≡ attributes .write (n .meta .attributes) ++ t)
-  attributes-at n r e = let t = bodyPart (kindOf (n .body)) .write (bodyPartOf (n .body)) ++ r in
-      (t, ends-at (p + 1) t (meta-end (n .meta)) (meta-at n r e))
-
-  pub changes-at : (d : Delta) (cs : Changes) (r : List ℕ) → layerRecord .read (drop p img) ≡ got (delta d) r → d .fields .attributes ≡ some cs
-      → (t : List ℕ) × (drop (changesAt p (d .fields) cs) img ≡ changes .write cs ++ t)
-  changes-at d cs r e h = let t = changePart (changedKind (d .change)) .write (changePartOf (d .change)) ++ r in
-      (t, ends-at (p + 1) t (fields-end (d .fields) cs h) (fields-at d r e))
-
-  pub entries-at : (m : Meta) (parent : ℕ) (es : Entries) (r : List ℕ) → node .read (drop p img) ≡ got (record { meta = m; body = directory parent es }) r
-      → drop (entriesAt p m parent) img ≡ entries .write es ++ r
-  entries-at m parent es r e =
-      let d = meta-at (record { meta = m; body = directory parent es }) r e in
-      let q = p + 1 + length (meta .write m) in
-      let g = on img (p + 1) (meta .write m) _ d ∙ append-assoc (inode .write parent) (entries .write es) r in
-      on img q (inode .write parent) (entries .write es ++ r) g
-
-  pub added-at : (f : Fields) (parent : Option ℕ) (added : Entries) (removed : Names) (r : List ℕ)
-      → layerRecord .read (drop p img) ≡ got (delta (record { fields = f; change = directory parent added removed })) r
-      → drop (addedAt p f parent) img ≡ entries .write added ++ (names .write removed ++ r)
-  added-at f parent added removed r e =
-      let d = fields-at (record { fields = f; change = directory parent added removed }) r e in
-      let q = p + 1 + length (fields .write f) in
-      let t = entries .write added ++ (names .write removed ++ r) in
-      let g =
-      on img (p + 1) (fields .write f) _ d ∙ append-assoc (maybe inode .write parent) (entries .write added ++ names .write removed) r
-      ∙ ap (λ (u : List ℕ). maybe inode .write parent ++ u) (append-assoc (entries .write added) (names .write removed) r) in
-      on img q (maybe inode .write parent) t g
+        rows-stand none (p + length n) (m .rows) t (on img p n (rowsWritten none (m .rows) ++ t) (e ∙ append-assoc n (rowsWritten none (m .rows)) t))
 
 -- ---- what a placed stack shows
 

@@ -2,11 +2,11 @@
 -- over 65,536 bytes; 2, image not by the layout." "Reads: 1, 2, then 3 if the name given is empty or over 255 bytes." "Listings: as reads,
 -- last 5 if there are fewer rows than entries."
 use mathlib.Core.Option.{Option, none, some}
-use mathlib.Core.List.{List, [], map}
+use mathlib.Core.List.{List, [], _++_, map}
 use mathlib.Core.Bool.{Bool, cond}
 use Prim.Native.Nat.{ℕ}
 use lib.Dec.{ltb}
-use lib.ListN.{length}
+use lib.ListN.{length, drop}
 use Rattle.wire.specs.Parse.{Parsed, fault, got}
 use Rattle.wire.specs.Reading.{part}
 use Rattle.image.specs.Meaning.{Text, Kind, Store}
@@ -55,6 +55,12 @@ attributeRows img i = map (rowOf (λ value. 0)) (lookPlaced placedValues (placed
 -- "Rows are compared in number, order, name bytes and inode": the name is the part of the image that the row says
 abbrev pub named : List ℕ → Row → Text × ℕ
 named img r = (part img (r .start) (r .length), r .inode)
+
+-- "Rows past the last stay." "A refusal gives its number; target and rows stay."
+abbrev pub filled : {A : Type 0} → Answer (Option (List A)) → List A → List A
+filled (refused n) old = old
+filled (answer none) old = old
+filled (answer (some new)) old = new ++ drop (length new) old
 
 -- "empty if none or refused"
 abbrev pub textOf : Answer (Option Text) → Text
