@@ -27,7 +27,7 @@ use Rattle.rules.specs.Asks.{reply}
 use Rattle.rules.specs.Starts.{startRows, starts}
 use Rattle.rules.specs.PlacedReads.{lookPlaced}
 use Rattle.rules.specs.PlacedStacks.{nodePlace, recordPlaces, recordsOn}
-use Rattle.rules.specs.ReadCalls.{overImage, Row, entryRows, attributeRows, textOf, exists, fileType, lookupChild, attr, listDirectory, readLink, hasLink, parentDirInode, getXattr, hasXattr, listXattrs}
+use Rattle.rules.specs.ReadCalls.{overImage, Row, entryRows, attributeRows, filled, textOf, exists, fileType, lookupChild, attr, listDirectory, readLink, hasLink, parentDirInode, getXattr, hasXattr, listXattrs}
 use Rattle.rules.proofs.Claims.{Claim, claim, HoldAll, a, b, permOf}
 
 -- the base has directory 1 with a → 7, c → 5 and attribute x; live sets w and x of it, and adds a → 9 and b → 8
@@ -51,6 +51,7 @@ listings =
     claim (listDirectory usual image 1 3) (answer (some (row 47 9 ∷ row 50 8 ∷ row 25 5 ∷ [])))
     ∷ claim (listXattrs usual image 1 2) (answer (some (row 35 0 ∷ row 40 0 ∷ [])))
     ∷ claim (listDirectory usual image 2 3) (answer none)
+    ∷ claim (filled (listXattrs usual image 1 3) (row 7 7 ∷ row 8 8 ∷ row 9 9 ∷ [])) (row 35 0 ∷ row 40 0 ∷ row 9 9 ∷ [])
     ∷ []
 
 -- the other reads
@@ -76,9 +77,10 @@ refusals =
     ∷ claim (textOf (getXattr usual image 1 [])) []
     ∷ claim (listDirectory usual image 1 2) (refused 5)
     ∷ claim (listXattrs usual image 1 1) (refused 5)
+    ∷ claim (filled (listXattrs usual image 1 1) (row 7 7 ∷ [])) (row 7 7 ∷ [])
     ∷ []
 
 pub reads-hold : HoldAll (listings ∷ reads ∷ refusals ∷ [])
 unfolding overImage decode store batches node kind meta layerRecord code fields time rising-read text-read number-read groups-read numberBytes groups opt-read asMap rising? under? empty get put over merge set insert remove lookup reply look stackOn placeUnder batchPlaces nodePlace recordPlaces recordsOn lookPlaced starts startRows entryRows attributeRows
 reads-hold =
-    ((refl, (refl, (refl, tt))), ((refl, (refl, (refl, (refl, (refl, (refl, (refl, (refl, (refl, tt))))))))), ((refl, (refl, (refl, (refl, (refl, (refl, tt)))))), tt)))
+    ((refl, (refl, (refl, (refl, tt)))), ((refl, (refl, (refl, (refl, (refl, (refl, (refl, (refl, (refl, tt))))))))), ((refl, (refl, (refl, (refl, (refl, (refl, (refl, tt))))))), tt)))

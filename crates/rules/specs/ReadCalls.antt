@@ -22,13 +22,16 @@ use Rattle.rules.specs.PlacedStacks.{placedRecords, placedNode}
 
 -- ---- of the store that an image holds
 
+-- "2, image not by the layout"
 abbrev pub ofStore : {A : Type 0} → (Store → Answer A) → Parsed Store → Answer A
 ofStore f (fault y) = refused 2
 ofStore f (got s r) = f s
 
+-- "Always first: 1, image over 65,536 bytes"
 unfoldable pub overImage : {A : Type 0} → (Store → Answer A) → List ℕ → Answer A
 overImage f img = cond (ltb 65536 (length img)) (refused 1) (ofStore f (readImage img))
 
+-- the same refusal, or another form of the answer
 abbrev pub mapAnswer : {A B : Type 0} → (A → B) → Answer A → Answer B
 mapAnswer f (refused n) = refused n
 mapAnswer f (answer a) = answer (f a)
@@ -45,6 +48,7 @@ pub record Row : Type 0 where
 abbrev pub rowOf : {A : Type 0} → (A → ℕ) → Text × (ℕ × A) → Row
 rowOf f e = record { start = e .1 .0; «length» = length (e .0); inode = f (e .1 .1) }
 
+-- "The start is in the highest layer that adds the name, else in the base."
 unfoldable pub entryRows : List ℕ → ℕ → List Row
 entryRows img i = map (rowOf (λ inode. inode)) (lookPlaced placedEntries (placedRecords img i) (placedNode img i) .rows)
 
@@ -71,23 +75,26 @@ textOf (answer (some t)) = t
 -- ---- the calls
 
 module _ (initial : Initial) where
+  -- "Exists, type: the topmost record decides"
   abbrev pub exists : List ℕ → ℕ → Answer Bool
   exists img i = overImage (ask initial (Ask.exists i)) img
 
   abbrev pub fileType : List ℕ → ℕ → Answer (Option Kind)
   fileType img i = overImage (ask initial (Ask.type i)) img
 
+  -- "Child: from the top."
   abbrev pub lookupChild : List ℕ → ℕ → Text → Answer (Option ℕ)
   lookupChild img i name = overImage (ask initial (Ask.child i name)) img
 
+  -- "Attributes: from the bottom."
   abbrev pub attr : List ℕ → ℕ → Answer (Option FileAttr)
   attr img i = overImage (ask initial (Ask.attributes i)) img
 
-  -- given the number of rows lent
+  -- "Listing: none unless the attributes' type is directory." It is given the number of rows lent; rows stand in place of names.
   abbrev pub listDirectory : List ℕ → ℕ → ℕ → Answer (Option (List Row))
   listDirectory img i lent = overImage (λ s. mapAnswer (mapIf (λ l. entryRows img i)) (ask initial (Ask.listing i lent) s)) img
 
-  -- the call's text is `textOf` of this
+  -- "Link text: from the top"; the part of the image that comes back is `textOf` of this
   abbrev pub readLink : List ℕ → ℕ → Answer (Option Text)
   readLink img i = overImage (ask initial (Ask.linkText i)) img
 
@@ -95,17 +102,18 @@ module _ (initial : Initial) where
   abbrev pub hasLink : List ℕ → ℕ → Answer Bool
   hasLink img i = mapAnswer isThere (readLink img i)
 
+  -- "Parent: inode 1 always has parent 1."
   abbrev pub parentDirInode : List ℕ → ℕ → Answer (Option ℕ)
   parentDirInode img i = overImage (ask initial (Ask.parent i)) img
 
-  -- the call's text is `textOf` of this
+  -- "Extended attribute: from the top"; the part of the image that comes back is `textOf` of this
   abbrev pub getXattr : List ℕ → ℕ → Text → Answer (Option Text)
   getXattr img i name = overImage (ask initial (Ask.attribute i name)) img
 
   abbrev pub hasXattr : List ℕ → ℕ → Text → Answer Bool
   hasXattr img i name = mapAnswer isThere (getXattr img i name)
 
-  -- given the number of rows lent
+  -- "Names: none without attributes, else those with a value, rising."
   abbrev pub listXattrs : List ℕ → ℕ → ℕ → Answer (Option (List Row))
   listXattrs img i lent = overImage (λ s. mapAnswer (mapIf (λ l. attributeRows img i)) (ask initial (Ask.names i lent) s)) img
 
