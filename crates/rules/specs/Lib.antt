@@ -18,3 +18,7 @@ pub mod Table
 pub mod Orderly
 pub mod Demand
 pub mod Room
+pub mod Starts
+pub mod PlacedReads
+pub mod PlacedStacks
+pub mod ReadCalls
