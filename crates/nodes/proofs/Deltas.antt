@@ -83,6 +83,17 @@ record-read : (s : List ℕ) → bind (code .read s) (λ c r. bind (codePart c .
 unfolding layerRecord
 record-read s = simp bind-bind
 
+-- the attribute changes end where the fields do, which start after one byte
+changes-end : {img : List ℕ} {n : ℕ} (m : ℕ) {a : AttrDelta} {o : NodeDelta} (at start mid next : Cursor) → Answers img (number-read 7) at 0 n start → ReadsAttr img start a mid
+    → ReadsDelta img mid (kindAt m) a o next → (p : ℕ) → at ≡ At p → IfAt next (λ q. AttrListed img (E.Node o) (p + 1 + fieldsLength img (E.Node o)))
+changes-end m at start mid (Stop f) h g d p e = tt
+changes-end m at start (Stop f) (At q) h g d p e = never-got (d .reads .same)
+changes-end m at (Stop f) (At i) (At q) h g d p e = never-got (g .reads .same)
+changes-end {img} m {a} at (At s) (At i) (At q) h g d p e =
+    let b : s ≡ p + 1 = reads-byte (omega arith) (rw e at (h .reads)) in
+    let z : i ≡ p + 1 + length (fields .write (fieldsMeant img a)) = omega (arith, reads-length fields (h .reads .within) (g .reads)) in
+    rw (d .attr) (rw z at (g .listed))
+
 module _ {img : List ℕ} {n : ℕ} {at start : Cursor} (h : Answers img (number-read 7) at 0 n start) where
   coded : {next : Cursor} {r : Record} → Reads img (λ s. bind (codePart (codeAt n) .read s) (λ p t. got (recordAt (codeAt n) p) t)) start r next
       → Reads img (layerRecord .read) at r next
@@ -91,28 +102,15 @@ module _ {img : List ℕ} {n : ℕ} {at start : Cursor} (h : Answers img (number
 
   pub reads-tombstone : n ≡ 0 → ReadsEntry img at E.Tombstone start
   reads-tombstone e = record {
-    reads = coded (rw e (reads-made _ _ (read-end img (h .reads .within))));
+    reads = coded (rw e (read-end img (h .reads .within)));
     attributes = λ p d. nowhere start;
     lists = nowhere start;
   }
 
-  module _ {m : ℕ} {a : AttrDelta} {o : NodeDelta} where
-    -- the attribute changes end where the fields do, which start after one byte
-    changes-end : (mid next : Cursor) → ReadsAttr img start a mid → ReadsDelta img mid (kindAt m) a o next → (p : ℕ) → at ≡ At p
-        → IfAt next (λ q. AttrListed img (E.Node o) (p + 1 + fieldsLength img (E.Node o)))
-    changes-end mid (Stop f) g d p e = tt
-    changes-end (Stop f) (At q) g d p e = never-got (d .reads .same)
-    changes-end (At i) (At q) g d p e =
-        let s = after-code start p e g in
-        let z : i ≡ p + 1 + length (fields .write (fieldsMeant img a)) = s in
-        rw (d .attr) (rw z at (g .listed))
-      where
-        after-code : (s : Cursor) (p : ℕ) → at ≡ At p → ReadsAttr img s a (At i) → i ≡ p + 1 + length (fields .write (fieldsMeant img a))
-        after-code s p e g = ?
-
-    pub reads-delta : {mid next : Cursor} → n ≡ suc m → ReadsAttr img start a mid → ReadsDelta img mid (kindAt m) a o next → ReadsEntry img at (E.Node o) next
-    reads-delta {mid} {next} e g d = record {
-      reads = coded (rw e (reads-first (fields .read) (changePart (kindAt m) .read) (λ x t. got (recordAt (some (kindAt m)) x) t) (g .reads) (d .reads)));
-      attributes = changes-end mid next g d;
-      lists = d .listed;
-    }
+  pub reads-delta : (m : ℕ) {a : AttrDelta} {o : NodeDelta} {mid next : Cursor} → n ≡ suc m → ReadsAttr img start a mid → ReadsDelta img mid (kindAt m) a o next
+      → ReadsEntry img at (E.Node o) next
+  reads-delta m {mid = mid} {next} e g d = record {
+    reads = coded (rw e (reads-first (fields .read) (changePart (kindAt m) .read) (λ x t. got (recordAt (some (kindAt m)) x) t) (g .reads) (d .reads)));
+    attributes = changes-end m at start mid next h g d;
+    lists = d .listed;
+  }

@@ -25,8 +25,9 @@ read-later-requires c κs = (omega (arith, number-most _ _ (c .before .before .b
 
 returns : tie.Need-returns
 returns c = record {
-    reads = reads-fields (record { mode = c .before .before .before .before .read-u32-if .result .option; uid = c .before .before .before .read-u32-if2 .result .option; gid = c .before .before .read-u32-if3 .result .option; nlink = c .before .read-u32-if4 .result .option }) (c .before .before .before .before .before .read-number .ensures) (c .before .before .before .before .read-u32-if .ensures) (c .before .before .before .read-u32-if2 .ensures) (c .before .before .read-u32-if3 .ensures) (c .before .read-u32-if4 .ensures) (c .read-later .ensures .reads);
-    listed = c .read-later .ensures .listed }
+  reads = reads-fields (record { mode = c .before .before .before .before .read-u32-if .result .option; uid = c .before .before .before .read-u32-if2 .result .option; gid = c .before .before .read-u32-if3 .result .option; nlink = c .before .read-u32-if4 .result .option }) (c .before .before .before .before .before .read-number .ensures) (c .before .before .before .before .read-u32-if .ensures) (c .before .before .before .read-u32-if2 .ensures) (c .before .before .read-u32-if3 .ensures) (c .before .read-u32-if4 .ensures) (c .read-later .ensures .reads);
+  listed = c .read-later .ensures .listed;
+}
 
 pub read-attr-delta-spec : {M : Type 1} → statement M
 read-attr-delta-spec =

@@ -23,8 +23,9 @@ attr-delta-of-requires c κs = search needs
 
 returns : tie.Need-returns
 returns c = rw (c .attr-delta-of .ensures) (record {
-    reads = reads-made _ _ (reads-pair _ _ (c .before .before .before .before .before .read-time-if .ensures) (reads-pair _ _ (c .before .before .before .before .read-time-if2 .ensures) (reads-pair _ _ (c .before .before .before .read-time-if3 .ensures) (reads-pair _ _ (c .before .before .read-time-if4 .ensures) (c .before .read-changes-if .ensures .reads)))));
-    listed = c .before .read-changes-if .ensures .listed })
+  reads = reads-made _ _ (reads-pair _ _ (c .before .before .before .before .before .read-time-if .ensures) (reads-pair _ _ (c .before .before .before .before .read-time-if2 .ensures) (reads-pair _ _ (c .before .before .before .read-time-if3 .ensures) (reads-pair _ _ (c .before .before .read-time-if4 .ensures) (c .before .read-changes-if .ensures .reads)))));
+  listed = c .before .read-changes-if .ensures .listed;
+})
 
 pub read-later-spec : {M : Type 1} → statement M
 read-later-spec =

@@ -1,3 +1,4 @@
+use Prim.Native.Nat.{_-_}
 use native.Mathlib.Omega.{arith}
 use Rattle.nodes.proofs.Deltas.{reads-tombstone, reads-delta}
 use borrow.Author.Needs.{needs}
@@ -20,7 +21,7 @@ read-node-delta-requires : tie.Need-read-node-delta-requires
 read-node-delta-requires c κs = search needs
 
 returns-2 : tie.Need-returns-2
-returns-2 c = reads-delta (c .before .before .before .before .before .before .read-number .ensures) (omega (arith, c .before .before .before .before .if1 .left)) (c .before .before .before .read-attr-delta .ensures) (c .read-node-delta .ensures)
+returns-2 c = reads-delta (c .before .before .before .before .before .before .read-number .ensures) (c .before .before .before .before .before .before .read-number .result .value - 1) (omega (arith, c .before .before .before .before .if1 .left)) (c .before .before .before .read-attr-delta .ensures) (c .read-node-delta .ensures)
 
 pub read-entry-delta-spec : {M : Type 1} → statement M
 read-entry-delta-spec =
