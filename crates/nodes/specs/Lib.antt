@@ -4,3 +4,6 @@ pub mod Listed
 pub mod Attrs
 pub mod Deltas
 pub mod Nodes
+pub mod Writes
+pub mod Batches
+pub mod Tails
