@@ -8,7 +8,7 @@ use native.Mathlib.Omega.{arith}
 use lib.ListN.{length}
 use Rattle.wire.specs.declared.cursor.Cursor.{Cursor}
 use Rattle.wire.specs.declared.cursor.Cursor.the-variants.{At, Stop}
-use Rattle.wire.specs.Parse.{got, bind, never-got}
+use Rattle.wire.specs.Parse.{got, bind, bind-bind, never-got}
 use Rattle.wire.specs.Number.{edge, number-read}
 use Rattle.wire.specs.Lists.{lastCount}
 use Rattle.wire.specs.Reading.{Reads, Answers}
@@ -31,7 +31,7 @@ use Rattle.nodes.specs.declared.delta.SpecialDelta.{SpecialDelta}
 use Rattle.nodes.specs.declared.delta.NodeDelta.{NodeDelta}
 use Rattle.nodes.specs.declared.delta.EntryDelta.the-variants as E
 use Rattle.nodes.specs.declared.delta.NodeDelta.the-variants.{Directory, Socket}
-use Rattle.nodes.proofs.Values.{reads-made, reads-pair, reads-first, reads-same, bind-bind, nowhere}
+use Rattle.nodes.proofs.Values.{reads-made, reads-pair, reads-first, reads-same, nowhere}
 use Rattle.nodes.proofs.Reading.{reads-length, reads-byte}
 
 -- the removed names come right after the added entries

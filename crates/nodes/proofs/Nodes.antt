@@ -7,7 +7,7 @@ use native.Mathlib.Omega.{arith}
 use lib.ListN.{length}
 use Rattle.wire.specs.declared.cursor.Cursor.{Cursor}
 use Rattle.wire.specs.declared.cursor.Cursor.the-variants as C
-use Rattle.wire.specs.Parse.{Parsed, got, bind, never-got}
+use Rattle.wire.specs.Parse.{Parsed, got, bind, bind-bind, never-got}
 use Rattle.wire.specs.Number.{edge, number-read}
 use Rattle.wire.specs.Reading.{Reads, Answers}
 use Rattle.wire.proofs.Readers.{read-then}
@@ -24,7 +24,7 @@ use Rattle.nodes.specs.declared.node.NodeKind.the-variants as K
 use Rattle.nodes.specs.Listed.{Listed, IfAt, ReadsNames}
 use Rattle.nodes.specs.Nodes.{metaMeant, bodyMeant, nodeMeant, EntriesListed, bodyRead, ReadsMeta, ReadsKind, ReadsNode}
 use Rattle.nodes.proofs.Reading.{reads-length, reads-byte}
-use Rattle.nodes.proofs.Values.{reads-made, reads-pair, bind-bind}
+use Rattle.nodes.proofs.Values.{reads-made, reads-pair}
 
 abbrev together : Meta → Body → M.Node
 together m b = record { meta = m; body = b }

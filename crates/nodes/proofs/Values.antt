@@ -8,7 +8,7 @@ use native.Mathlib.Omega.{arith}
 use lib.ListN.{length, drop, length-append, length-drop}
 use Rattle.wire.specs.declared.cursor.Cursor.{Cursor}
 use Rattle.wire.specs.declared.cursor.Cursor.the-variants.{At, Stop}
-use Rattle.wire.specs.Parse.{Parsed, fault, got, bind, never-got}
+use Rattle.wire.specs.Parse.{Parsed, got, bind, bind-bind, never-got}
 use Rattle.wire.specs.Codec.{Codec}
 use Rattle.wire.specs.Combinators.{opt-read}
 use Rattle.wire.specs.Number.{numberBytes, number-read, number-one}
@@ -63,10 +63,6 @@ pub reads-same : {A : Type 0} {img : List ℕ} {p q : List ℕ → Parsed A} (at
     → Reads img q at a next
 reads-same {img = img} (At n) e h = record { same = sym (e (drop n img)) ∙ h .same; within = h .within }
 reads-same (Stop f) e h = record { same = h .same; within = h .within }
-
-pub bind-bind : {A B C : Type 0} (o : Parsed A) (f : A → List ℕ → Parsed B) (g : B → List ℕ → Parsed C) → bind (bind o f) g ≡ bind o (λ a r. bind (f a r) g)
-bind-bind (fault y) f g = refl
-bind-bind (got a r) f g = refl
 
 -- a value is made of the first field, which says what follows
 pub reads-tag : {A B C : Type 0} {img : List ℕ} (p : List ℕ → Parsed A) (k : A → List ℕ → Parsed B) (j : B → List ℕ → Parsed C) {at mid next : Cursor} {a : A} {c : C}
