@@ -8,6 +8,7 @@ ghost use Rattle.nodes.specs.Batches.{headMeant};
 use wire::cursor::Cursor;
 use wire::cursor::Fault;
 use wire::number::NumberRead;
+use wire::number::no_number;
 use wire::number::put_number;
 use wire::number::read_number;
 use wire::time::Time;
@@ -64,10 +65,7 @@ fn read_reason(img: &[u8], at: Cursor) -> NumberRead
     match next {
         Cursor::At(_) => {
             if reason.value == 0 {
-                return NumberRead {
-                    value: 0,
-                    next: Cursor::Stop(Fault::Malformed),
-                };
+                return no_number(Fault::Malformed);
             }
             reason
         }

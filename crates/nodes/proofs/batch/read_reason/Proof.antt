@@ -14,8 +14,11 @@ read-number-requires c κs = search needs
 enum-told : tie.Need-enum-told
 enum-told c = search needs
 
+no-number-requires : tie.Need-no-number-requires
+no-number-requires c κs = search needs
+
 returns : tie.Need-returns
-returns c = stops-free 0 (only-refused (numberTo 5 refl) (leb 1) (c .before .before .before .before .read-number .ensures .reads) (c .before .before .enum-told .given .1) (rw (c .if1 .taken)))
+returns c = rw (c .no-number .ensures) (stops-free 0 (only-refused (numberTo 5 refl) (leb 1) (c .before .before .before .before .before .read-number .ensures .reads) (c .before .before .before .enum-told .given .1) (rw (c .before .if1 .taken))))
 
 enum-told-2 : tie.Need-enum-told-2
 enum-told-2 c = search needs
@@ -28,4 +31,4 @@ returns-3 c = only-stopped (numberTo 5 refl) (leb 1) (c .before .before .read-nu
 
 pub read-reason-spec : {M : Type 1} → statement M
 read-reason-spec =
-    tie.close (tie.spec read-number-requires enum-told returns enum-told-2 returns-2 returns-3)
+    tie.close (tie.spec read-number-requires enum-told no-number-requires returns enum-told-2 returns-2 returns-3)
