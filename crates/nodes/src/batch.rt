@@ -1,13 +1,10 @@
 // The head of a batch by value.
-ghost use mathlib.Core.Path.{refl};
-ghost use Rattle.wire.specs.Number.{between};
 ghost use Rattle.wire.specs.Reading.{Reads};
 ghost use Rattle.wire.specs.Put.{Put};
 ghost use Rattle.image.specs.Gathering.{batchHead};
 ghost use Rattle.nodes.specs.Batches.{headMeant};
+use image::batch::read_reason;
 use wire::cursor::Cursor;
-use wire::cursor::Fault;
-use wire::number::NumberRead;
 use wire::number::no_number;
 use wire::number::put_number;
 use wire::number::read_number;
@@ -53,23 +50,6 @@ pub fn read_batch_head(img: &[u8], at: Cursor) -> BatchHeadRead
             committed,
         },
         next,
-    }
-}
-
-// A reason, from 1 to 5.
-fn read_reason(img: &[u8], at: Cursor) -> NumberRead
-    ensures { λ r. ⌜ Reads (now (img .entry)) (between 1 5 refl .read) at (r .value) (r .next) ⌝ }
-{
-    let reason = read_number(img, at, 5);
-    let next = reason.next;
-    match next {
-        Cursor::At(_) => {
-            if reason.value == 0 {
-                return no_number(Fault::Malformed);
-            }
-            reason
-        }
-        Cursor::Stop(_) => reason,
     }
 }
 
