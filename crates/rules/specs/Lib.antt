@@ -22,3 +22,4 @@ pub mod Starts
 pub mod PlacedReads
 pub mod PlacedStacks
 pub mod ReadCalls
+pub mod ChangeCalls
