@@ -23,3 +23,4 @@ pub mod PlacedReads
 pub mod PlacedStacks
 pub mod ReadCalls
 pub mod ChangeCalls
+pub mod Behaviour
