@@ -28,3 +28,4 @@ pub mod ListPlaces
 pub mod Standing
 pub mod Asked
 pub mod ReadExamples
+pub mod DemandBytes

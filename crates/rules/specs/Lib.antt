@@ -22,3 +22,5 @@ pub mod Starts
 pub mod PlacedReads
 pub mod PlacedStacks
 pub mod ReadCalls
+pub mod ChangeCalls
+pub mod Behaviour
