@@ -1,5 +1,5 @@
 -- What a changing call answers, where it is not refused: the image of the new store, which the target has room for.
-use mathlib.Core.Path.{_≡_, refl, sym, _∙_}
+use mathlib.Core.Path.{_≡_, refl, sym, ap, _∙_}
 use mathlib.Core.Option.{Option, none, some}
 use mathlib.Core.List.{List, []}
 use mathlib.Core.Bool.{Bool, true, false, cond, _&&_}
@@ -16,12 +16,13 @@ use Rattle.rules.specs.Initial.{Initial}
 use Rattle.rules.specs.Answers.{Answer, refused, answer, unless}
 use Rattle.rules.specs.Calls.{Call}
 use Rattle.rules.specs.Arguments.{FitsCall, FitsInitial}
+use Rattle.rules.specs.Queue.{snapshot}
 use Rattle.rules.specs.Refusals.{refusal}
 use Rattle.rules.specs.Outcomes.{result, change, ifRoom}
 use Rattle.rules.specs.Room.{InRoom, hasRoom}
 use Rattle.rules.specs.ReadCalls.{ofStore, overImage, mapAnswer}
-use Rattle.rules.specs.ChangeCalls.{newImage, written, lengthOf, byRules}
-use Rattle.rules.proofs.ResultImage.{result-image}
+use Rattle.rules.specs.ChangeCalls.{newImage, written, lengthOf, byRules, snapshotAll}
+use Rattle.rules.proofs.ResultImage.{result-image, snapshot-image}
 
 -- a refusal is no answer
 not-both : {A B : Type 0} {n : ℕ} {a : A} → _≡_ {A = Answer A} (refused n) (answer a) → B
@@ -99,3 +100,12 @@ module _ (initial : Initial) (ok : FitsInitial initial) where
       go none k m g =
           let u : m .store ≡ result initial c s = cc in
           rw (m .image, u) (result-image initial ok c s (read-fits img s e) h k (rw u at (m .room)))
+
+  -- the same of a snapshot
+  pub snapshot-holds : (img : List ℕ) (target : ℕ) (s : Store) (new : List ℕ) → readImage img ≡ got s [] → snapshotAll initial img target ≡ answer new
+      → readImage new ≡ got (snapshot initial s) []
+  snapshot-holds img target s new e d =
+      let m = answer-makes (λ s. answer (snapshot initial s)) img target new d in
+      let same : m .old ≡ s = (let f = sym (m .holds) ∙ e in cc) in
+      let u : m .store ≡ snapshot initial s = (let g = rw same at (m .given) in cc) in
+      ap readImage (m .image ∙ ap writeImage u) ∙ snapshot-image initial ok s (read-fits img s e) (rw u at (m .room))
