@@ -5,7 +5,6 @@ use mathlib.Core.List.{List, [], _∷_, map}
 use mathlib.Core.Bool.{Bool, true, false, cond}
 use Prim.Native.Nat.{ℕ, _≤_}
 use native.Mathlib.Omega.{arith}
-use lib.ListN.{length}
 use Rattle.wire.specs.Parse.{Parsed, fault, got}
 use Rattle.wire.specs.Codec.{decode, encode-decode}
 use Rattle.wire.specs.Lists.{Every}
@@ -14,19 +13,20 @@ use Rattle.image.specs.Fits.{IfGiven, FitsFields, FitsRecord, FitsStore}
 use Rattle.image.specs.RecordLayout.{fields, layerRecord}
 use Rattle.image.specs.RoundTrip.{readImage, writeImage, read-then-write, one-image, read-fits}
 use Rattle.rules.specs.Initial.{Initial, Accepted, usual}
-use Rattle.rules.specs.Answers.{Answer, refused, answer, unless, isRefused}
-use Rattle.rules.specs.Asks.{Ask, reply}
+use Rattle.rules.specs.Answers.{Answer, refused, answer, firstOf, unless, isRefused}
+use Rattle.rules.specs.Views.{View}
+use Rattle.rules.specs.Asks.{Ask, rowsOf, namesOf, badName, fewRows, reply}
 use Rattle.rules.specs.Calls.{Call}
 use Rattle.rules.specs.Arguments.{FitsCall, FitsInitial}
 use Rattle.rules.specs.Refusals.{refusal}
 use Rattle.rules.specs.Outcomes.{result, change, ifRoom}
-use Rattle.rules.specs.Table.{Table, tableOf, tellAll, askTable}
+use Rattle.rules.specs.Table.{tableOf, tellAll, askTable}
 use Rattle.rules.specs.Orderly.{Orderly, Condition}
 use Rattle.rules.specs.Demand.{Made, storeAfter, IfAccepted, outcome, next, after, told, Conditions}
 use Rattle.rules.specs.Room.{InRoom, lent, FitsMade}
 use Rattle.rules.specs.ReadCalls.{mapAnswer}
 use Rattle.rules.specs.ChangeCalls.{ifRead, givenRecord, givenFields, newImage, byRules}
-use Rattle.rules.specs.Behaviour.{CodeCall, meant, Typed, Called, imageAfter, WhereAccepted, OfStore, answered, imageAfterAll, toldOf, ConditionsOf, Agrees, Meets-3, changed, ours}
+use Rattle.rules.specs.Behaviour.{CodeCall, meant, Typed, Called, imageAfter, WhereAccepted, answered, imageAfterAll, toldOf, ConditionsOf, Agrees, OrderlyImage, Meets-3, changed, ours}
 use Rattle.rules.proofs.Demand.{demand-3-for, stays-orderly}
 use Rattle.rules.proofs.ResultImage.{usual-fits}
 use Rattle.rules.proofs.ListImage.{lent-fits, after-fits}
@@ -76,6 +76,28 @@ all-fit : (calls : List Called) → Every FitsMade (map madeOf calls)
 all-fit [] = tt
 all-fit (c ∷ cs) = (made-fits c, all-fit cs)
 
+-- ---- "3 and 5 alike, 1 and 2 never"
+
+answer-refused : {A B : Type 0} {x : A} {n : ℕ} → _≡_ {A = Answer A} (answer x) (refused n) → B
+answer-refused e = absurd (let z : _≡_ {A = ℕ} 0 1 = cc in omega arith)
+
+one-refusal : {A : Type 0} (k n : ℕ) (b : Bool) (x : A) → 3 ≤ k → unless (firstOf ((k, b) ∷ [])) x ≡ refused n → 3 ≤ n
+one-refusal k n true x l e = let z : k ≡ n = cc in omega (arith, l, z)
+one-refusal k n false x l e = answer-refused e
+
+-- no read of a table, or of a store, is refused by 1 or 2
+pub never-1-or-2 : (q : Ask) (v : View) (n : ℕ) → reply q v ≡ refused n → 3 ≤ n
+unfolding reply
+never-1-or-2 (Ask.exists i) v n e = answer-refused e
+never-1-or-2 (Ask.type i) v n e = answer-refused e
+never-1-or-2 (Ask.attributes i) v n e = answer-refused e
+never-1-or-2 (Ask.linkText i) v n e = answer-refused e
+never-1-or-2 (Ask.parent i) v n e = answer-refused e
+never-1-or-2 (Ask.child i name) v n e = one-refusal 3 n (badName name) (v .child name) (omega arith) e
+never-1-or-2 (Ask.attribute i name) v n e = one-refusal 3 n (badName name) (v .attribute name) (omega arith) e
+never-1-or-2 (Ask.listing i rows) v n e = one-refusal 5 n (fewRows rows (v .listing)) (rowsOf (v .listing)) (omega arith) e
+never-1-or-2 (Ask.names i rows) v n e = one-refusal 5 n (fewRows rows (v .names)) (namesOf (v .names)) (omega arith) e
+
 -- ---- answers as bytes
 
 image-next : (a : Answer Store) (s : Store) → imageAfter (mapAnswer writeImage a) (writeImage s) ≡ writeImage (storeAfter a s)
@@ -89,6 +111,10 @@ refused-alike (answer t) = refl
 accepted-alike : (P : Type 0) (a : Answer Store) → WhereAccepted (mapAnswer writeImage a) P → IfAccepted P a
 accepted-alike P (refused n) h = tt
 accepted-alike P (answer t) h = h
+
+accepted-back : (P : Type 0) (a : Answer Store) → IfAccepted P a → WhereAccepted (mapAnswer writeImage a) P
+accepted-back P (refused n) h = tt
+accepted-back P (answer t) h = h
 
 module _ (initial : Initial) where
   -- each call of the code has the result or refusal that the rules give
@@ -129,16 +155,18 @@ module _ (initial : Initial) where
       go none = room (m .room new) refl
       go (some n) = h
 
+  -- our calls on the image of a store do what the rules do on the store
   pub record Follows (calls : List Called) (s : Store) : Type 0 where
     pub image : imageAfterAll (ours initial) calls (writeImage s) ≡ writeImage (after initial (map madeOf calls) s)
     pub room : InRoom (after initial (map madeOf calls) s)
     pub tells : toldOf (ours initial) calls (writeImage s) ≡ told initial (map madeOf calls) s
     pub within : ConditionsOf (ours initial) initial calls (writeImage s) → Conditions initial (map madeOf calls) s
+    pub back : Conditions initial (map madeOf calls) s → ConditionsOf (ours initial) initial calls (writeImage s)
 
   module _ (ok : FitsInitial initial) where
     pub follows : (calls : List Called) (s : Store) → FitsStore s → InRoom s → Follows calls s
     unfolding after told imageAfterAll toldOf
-    follows [] s h room = record { image = refl; room = room; tells = refl; within = λ k. tt }
+    follows [] s h room = record { image = refl; room = room; tells = refl; within = λ k. tt; back = λ k. tt }
     follows (c ∷ cs) s h room =
         let a = outcome initial (madeOf c) s in
         let e : answered (ours initial) c (writeImage s) ≡ mapAnswer writeImage a = calls-change (c .call) (writeImage s) (c .target) ∙ on-image (meant (c .call)) (c .target) s h room in
@@ -148,6 +176,7 @@ module _ (initial : Initial) where
           room = rest .room;
           tells = rw (e, image-next a s, refused-alike a, rest .tells) refl;
           within = λ k. let l = rw (e, image-next a s, one-image s h .0) at k in (accepted-alike (Condition initial (meant (c .call)) s) a (l .0), rest .within (l .1));
+          back = λ k. rw (e, image-next a s, one-image s h .0) (accepted-back (Condition initial (meant (c .call)) s) a (k .0), rest .back (k .1));
         }
 
     -- ---- demand 3
@@ -170,9 +199,23 @@ module _ (initial : Initial) where
           }
 
       pub demand-3-bytes-for : Meets-3 (ours initial) initial
-      demand-3-bytes-for img s l e o calls k =
-          let w = read-then-write img s e in
-          rw (← w) (on-store s (read-fits img s e) (rw w l) o calls (rw (← w) at k))
+      demand-3-bytes-for img s h calls k =
+          let w = read-then-write img s (h .holds) in
+          rw (← w) (on-store s (read-fits img s (h .holds)) (rw w (h .short)) (h .orderly) calls (rw (← w) at k))
+
+    -- The image so far is an orderly one: the list may go on, and neither a call nor a read is refused by 1 or 2.
+    pub stays-image : (img : List ℕ) (s : Store) → OrderlyImage img s → (calls : List Called) → ConditionsOf (ours initial) initial calls img
+        → OrderlyImage (imageAfterAll (ours initial) calls img) (after initial (map madeOf calls) s)
+    stays-image img s h calls k =
+        let w = read-then-write img s (h .holds) in
+        let fits = read-fits img s (h .holds) in
+        let f = follows calls s fits (rw w (h .short)) in
+        let i : imageAfterAll (ours initial) calls img ≡ writeImage (after initial (map madeOf calls) s) = rw (← w) (f .image) in
+        record {
+          short = rw i (f .room);
+          holds = rw i (one-image (after initial (map madeOf calls) s) (after-fits initial ok (map madeOf calls) s (all-fit calls) fits) .0);
+          orderly = stays-orderly initial s (h .orderly) (map madeOf calls) (f .within (rw (← w) at k));
+        }
 
 -- DEMAND 3, on bytes
 pub demand-3-bytes : Meets-3 (ours usual) usual

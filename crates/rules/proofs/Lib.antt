@@ -29,3 +29,7 @@ pub mod Standing
 pub mod Asked
 pub mod ReadExamples
 pub mod DemandBytes
+pub mod AppliedBytes
+pub mod Written
+pub mod SixStores
+pub mod Variants

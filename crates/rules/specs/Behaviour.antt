@@ -96,6 +96,12 @@ abbrev pub OfStore : (Store → Type 0) → Parsed Store → Type 0
 OfStore P (fault f) = Unit {0}
 OfStore P (got s r) = P s
 
+-- "an orderly image", and the store that it holds
+pub record OrderlyImage (img : List ℕ) (s : Store) : Type 0 where
+  pub short : length img ≤ 65536
+  pub holds : readImage img ≡ got s []
+  pub orderly : Orderly s
+
 module _ (B : Behaviour) where
   abbrev pub answered : Called → List ℕ → Answer (List ℕ)
   answered c img = B .change (c .call) img (c .target)
@@ -127,9 +133,7 @@ module _ (B : Behaviour) where
 
     -- DEMAND 3 of a behaviour
     abbrev pub Meets-3 : Type 0
-    Meets-3 =
-        (img : List ℕ) (s : Store) → length img ≤ 65536 → readImage img ≡ got s [] → Orderly s
-        → (calls : List Called) → ConditionsOf calls img → Agrees s calls img
+    Meets-3 = (img : List ℕ) (s : Store) → OrderlyImage img s → (calls : List Called) → ConditionsOf calls img → Agrees s calls img
 
 -- ---- our own: the definitions that the code's contracts cite
 

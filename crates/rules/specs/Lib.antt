@@ -24,3 +24,4 @@ pub mod PlacedStacks
 pub mod ReadCalls
 pub mod ChangeCalls
 pub mod Behaviour
+pub mod WrongStores
