@@ -110,9 +110,13 @@ module _ {img : List ℕ} (u : Under) where
 
 -- ---- attribute changes
 
+-- what holds at every place
+pub anywhere : {P : Type 0} (c : Cursor) → P → IfAt c (λ q. P)
+anywhere (At q) h = h
+anywhere (Stop f) h = tt
+
 pub nowhere : (c : Cursor) → IfAt c (λ q. Unit {0})
-nowhere (At q) = tt
-nowhere (Stop f) = tt
+nowhere c = anywhere c tt
 
 module _ {img : List ℕ} {at : Cursor} {bit : ℕ} where
   pub no-changes : bit ≡ 0 → cursorIn img at → ReadsChanges img at bit P.None at

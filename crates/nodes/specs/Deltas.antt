@@ -10,7 +10,7 @@ use Rattle.wire.specs.Reading.{Reads}
 use Rattle.image.specs.Meaning.{Kind, Fields, Change, Delta, Record, directory, file, symlink, special, pipe, character, block, socket, tombstone, delta}
 use Rattle.image.specs.RecordLayout.{fields, changePart, changeOf, layerRecord}
 use Rattle.image.specs.declared.name.Under.the-variants as U
-use Rattle.nodes.specs.Options.{numberOf, textOf}
+use Rattle.nodes.specs.Options.{numberOf, textOf, InsideIf}
 use Rattle.nodes.specs.Listed.{listAt, Listed, ListedIf, IfAt}
 use Rattle.nodes.specs.Attrs.{fieldsMeant}
 use Rattle.nodes.specs.declared.attr.AttrDelta.{AttrDelta}
@@ -57,11 +57,11 @@ specialDelta (special character) d = CharDevice d
 specialDelta (special block) d = BlockDevice d
 specialDelta (special socket) d = Socket d
 
--- the removed names are the last of a directory's delta, and the added entries end where they start
+-- the removed names are the last of a directory's delta, and the added entries end where they start; a target is inside the image
 abbrev pub ChangeListed : List ℕ → NodeDelta → ℕ → Type 0
 ChangeListed img (Directory d) end = Listed img U.Inode (d .added) (d .removed .start) × Listed img U.Nothing (d .removed) end
 ChangeListed img (File d) end = Unit {0}
-ChangeListed img (Symlink d) end = Unit {0}
+ChangeListed img (Symlink d) end = InsideIf img (d .target)
 ChangeListed img (Fifo d) end = Unit {0}
 ChangeListed img (CharDevice d) end = Unit {0}
 ChangeListed img (BlockDevice d) end = Unit {0}

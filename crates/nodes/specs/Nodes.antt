@@ -12,7 +12,7 @@ use Rattle.image.specs.Meaning as M
 use Rattle.image.specs.Meaning.{Meta, Body, Kind, directory, file, symlink, special, pipe, character, block, socket}
 use Rattle.image.specs.declared.name.Under.the-variants as U
 use Rattle.image.specs.NodeLayout.{meta, bodyPart, bodyOf, node}
-use Rattle.nodes.specs.Options.{textAt}
+use Rattle.nodes.specs.Options.{textAt, Inside}
 use Rattle.nodes.specs.Listed.{listAt, Listed, IfAt}
 use Rattle.nodes.specs.declared.node.InodeMeta.{InodeMeta}
 use Rattle.nodes.specs.declared.node.NodeKind.{NodeKind}
@@ -46,11 +46,11 @@ module _ (img : List ℕ) where
   abbrev pub nodeMeant : Node → M.Node
   nodeMeant n = record { meta = metaMeant (n .meta); body = bodyMeant (n .kind) }
 
-  -- the entries of a directory are a list in the image
+  -- the entries of a directory are a list in the image; a target is inside it
   abbrev pub EntriesListed : NodeKind → ℕ → Type 0
   EntriesListed (K.Directory parent es) end = Listed img U.Inode es end
   EntriesListed (K.File size) end = Unit {0}
-  EntriesListed (K.Symlink t) end = Unit {0}
+  EntriesListed (K.Symlink t) end = Inside img t
   EntriesListed K.Fifo end = Unit {0}
   EntriesListed (K.CharDevice rdev) end = Unit {0}
   EntriesListed (K.BlockDevice rdev) end = Unit {0}

@@ -3,10 +3,9 @@ ghost use Prim.Native.Nat.{_≤_};
 ghost use Rattle.wire.specs.Combinators.{opt-read};
 ghost use Rattle.wire.specs.Number.{number-read};
 ghost use Rattle.wire.specs.Time.{time};
-ghost use Rattle.wire.specs.Text.{text-read};
 ghost use Rattle.wire.specs.Reading.{Reads, cursorIn};
 ghost use Rattle.image.specs.Places.{maybe-read};
-ghost use Rattle.nodes.specs.Options.{wordOf, numberOf, timeOf, textOf};
+ghost use Rattle.nodes.specs.Options.{wordOf, numberOf, timeOf, ReadsText};
 use crate::part::Part;
 use wire::cursor::Cursor;
 use wire::number::read_number;
@@ -115,7 +114,7 @@ pub fn read_maybe_number(img: &[u8], at: Cursor, most: u64) -> OptionU64Read
 
 // 0, or 1 and a text of at most `most` bytes.
 pub fn read_maybe_text(img: &[u8], at: Cursor, most: u64) -> OptionPartRead
-    ensures { λ r. ⌜ Reads (now (img .entry)) (maybe-read (text-read 0 most)) at (textOf (now (img .entry)) (r .option)) (r .next) ⌝ }
+    ensures { λ r. ⌜ ReadsText (now (img .entry)) most at (r .option) (r .next) ⌝ }
 {
     let bit = read_number(img, at, 1);
     let here = bit.next;
