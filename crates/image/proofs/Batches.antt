@@ -1,6 +1,6 @@
 -- One batch after the other: the places of one inode's records.
 -- Assumes nothing.
-use mathlib.Core.Path.{_≡_, refl, sym, ap, _∙_}
+use mathlib.Core.Path.{_≡_, refl, sym, ap, _∙_, subst}
 use mathlib.Core.Bool.{Bool, true, false}
 use mathlib.Core.List.{List, [], _++_, append-assoc, append-nil}
 use mathlib.Core.Option.{Option, none}
@@ -10,18 +10,18 @@ use lib.ListN.{length, drop}
 use Rattle.wire.specs.declared.cursor.Fault.{Fault}
 use Rattle.wire.specs.declared.cursor.Cursor.{Cursor}
 use Rattle.wire.specs.declared.cursor.Cursor.the-variants.{At, Stop}
-use Rattle.wire.specs.Parse.{Parsed, got, never-got}
+use Rattle.wire.specs.Parse.{Parsed, got, bind, bind-bind, never-got}
 use Rattle.wire.specs.Combinators.{only}
-use Rattle.wire.specs.Number.{number-read, between}
+use Rattle.wire.specs.Number.{number-read}
 use Rattle.wire.specs.Orders.{byNumber}
 use Rattle.wire.specs.Lists.{after}
 use Rattle.wire.specs.Reading.{Answers, run}
-use Rattle.image.specs.FieldLayout.{inode, word, moment}
+use Rattle.image.specs.FieldLayout.{inode}
 use Rattle.image.specs.RecordLayout.{records}
-use Rattle.image.specs.StoreLayout.{batchRest}
+use Rattle.image.specs.StoreLayout.{BatchRest, batchRest}
 use Rattle.image.specs.Places.{Ends, inodeBefore, rowsFrom, lastOf}
 use Rattle.image.specs.Held.{placeOf, Finds}
-use Rattle.image.specs.Gathering.{listIf, deltasOf, batchHead, recordPlace, batchPlaces, queueRows, queuePlaces, Pushed, Gathers, GathersQueue}
+use Rattle.image.specs.Gathering.{listIf, deltasOf, headRest, batchHead, recordPlace, batchPlaces, queueRows, queuePlaces, Pushed, Gathers, GathersQueue}
 use Rattle.image.specs.declared.inode.Held.the-variants as H
 use Rattle.image.specs.declared.inode.Place.{Place}
 use Rattle.image.specs.declared.batch.InodeLayerStack.{InodeLayerStack}
@@ -58,35 +58,31 @@ places-found {img} {sought} {here} {q} {place} n h (At m) (At p) a f e =
 places-found n h (At m) (Stop y) a f e = no-place {f = y} refl e
 places-found n h (Stop y) next a f e = never-got ((rw e at (f .ends)) .same)
 
-module _ {img : List ℕ} {sought here j : ℕ} (prev : Option ℕ) {c1 c2 c3 c4 c5 next : Cursor} {place : Place}
-    (a : Answers img (only (after byNumber prev) inode .read) (At here) 0 j c1) (b1 : Ends img (word .read) c1 c2) (b2 : Ends img (word .read) c2 c3)
-    (b3 : Ends img (between 1 5 refl .read) c3 c4) (b4 : Ends img (moment .read) c4 c5) (f : Finds img H.Record sought c5 place next) where
-  -- what follows the id
+-- what follows the id is the rest of the head, and the records
+rest-read : (s : List ℕ) → bind (headRest .read s) (λ h r. bind (records .read r) (λ l t. got (h .0, (h .1 .0, (h .1 .1 .0, (h .1 .1 .1, l)))) t)) ≡ batchRest .read s
+rest-read s = simp bind-bind
+
+module _ {img : List ℕ} {sought here j : ℕ} (prev : Option ℕ) {c1 c2 next : Cursor} {place : Place}
+    (a : Answers img (only (after byNumber prev) inode .read) (At here) 0 j c1) (b : Ends img (headRest .read) c1 c2) (f : Finds img H.Record sought c2 place next) where
   pub batch-ends : Ends img (batchRest .read) c1 next
   batch-ends =
-      ends-then _ _ (λ a b. (a, b)) b1 (ends-then _ _ (λ a b. (a, b)) b2 (ends-then _ _ (λ a b. (a, b)) b3 (ends-then _ _ (λ a b. (a, b)) b4 (f .ends))))
+      subst (λ (p : List ℕ → Parsed BatchRest). Ends img p c1 next) (λ i s. rest-read s i)
+      (ends-then (headRest .read) (records .read) (λ h l. (h .0, (h .1 .0, (h .1 .1 .0, (h .1 .1 .1, l))))) b (f .ends))
 
   module _ {q : ℕ} (e : next ≡ At q) where
-    at5 : (m : ℕ) × (c5 ≡ At m)
-    at5 = ends-from c5 (rw e at (f .ends))
-
     at1 : (m : ℕ) × (c1 ≡ At m)
-    at1 =
-        let x4 = ends-from c4 (rw (at5 .1) at b4) in
-        let x3 = ends-from c3 (rw (x4 .1) at b3) in
-        let x2 = ends-from c2 (rw (x3 .1) at b2) in
-        ends-from c1 (rw (x2 .1) at b1)
+    at1 = ends-from c1 (rw (ends-from c2 (rw e at (f .ends)) .1) at b)
 
     -- the head ends where the records are
-    head-ends : Ends img (batchHead .read) (At here) c5
+    head-ends : Ends img (batchHead .read) (At here) c2
     head-ends =
         let k : Ends img (inode .read) (At here) (At (at1 .0)) =
         ends-of (record { same = key-read prev (drop here img) ((rw (at1 .1) at a) .reads .same); within = (rw (at1 .1) at a) .reads .within }) in
         let i : Ends img (inode .read) (At here) c1 = rw (at1 .1) k in
-        ends-then _ _ (λ a b. (a, b)) i (ends-then _ _ (λ a b. (a, b)) b1 (ends-then _ _ (λ a b. (a, b)) b2 (ends-then _ _ (λ a b. (a, b)) b3 b4)))
+        ends-then _ _ (λ a b. (a, b)) i b
 
     pub batch-places : (n : ℕ) → 0 < n → batchPlaces (length img) sought n (drop here img) ≡ listIf (placeOf place) ++ batchPlaces (length img) sought (n - 1) (drop q img)
-    batch-places n h = places-found n h c5 next head-ends f e
+    batch-places n h = places-found n h c2 next head-ends f e
 
 -- The loop over the batches has come to `here`, where `left` are left after the id `last`; `now` is gathered of them.
 pub record Going (img : List ℕ) (sought first n : ℕ) (old : InodeLayerStack) (any : Bool) (last here left : ℕ) (now : InodeLayerStack) : Type 0 where
@@ -120,12 +116,11 @@ module _ {img : List ℕ} {sought first n last here left : ℕ} {old now : Inode
       none-places zero h = refl
       none-places (suc k) h = absurd (omega arith)
 
-  module _ {j : ℕ} {c1 c2 c3 c4 c5 next : Cursor} {place : Place} (h : 0 < left)
-      (a : Answers img (only (after byNumber (inodeBefore any last)) inode .read) (At here) 0 j c1) (b1 : Ends img (word .read) c1 c2) (b2 : Ends img (word .read) c2 c3)
-      (b3 : Ends img (between 1 5 refl .read) c3 c4) (b4 : Ends img (moment .read) c4 c5) (f : Finds img H.Record sought c5 place next) where
+  module _ {j : ℕ} {c1 c2 next : Cursor} {place : Place} (h : 0 < left) (a : Answers img (only (after byNumber (inodeBefore any last)) inode .read) (At here) 0 j c1)
+      (b : Ends img (headRest .read) c1 c2) (f : Finds img H.Record sought c2 place next) where
     pub going-stop : {y : Fault} → next ≡ Stop y → Gathers img sought first n old (record { stack = now; any = any; last = last; next = next })
     going-stop e = record {
-      ends = passed-stop byNumber inode batchRest (w .rows) h (a .reads) (batch-ends (inodeBefore any last) a b1 b2 b3 b4 f) e;
+      ends = passed-stop byNumber inode batchRest (w .rows) h (a .reads) (batch-ends (inodeBefore any last) a b f) e;
       last = λ q d. no-place e d;
       places = λ q d. no-place e d;
       base = λ q d. no-place e d;
@@ -135,9 +130,9 @@ module _ {img : List ℕ} {sought first n last here left : ℕ} {old now : Inode
 
     pub going-on : {q : ℕ} {new : InodeLayerStack} → next ≡ At q → Pushed now (placeOf place) new → Going img sought first n old true j q (left - 1) new
     going-on {q} {new} e p = record {
-      rows = passed-on byNumber inode batchRest (w .rows) h (a .reads) (batch-ends (inodeBefore any last) a b1 b2 b3 b4 f) e;
+      rows = passed-on byNumber inode batchRest (w .rows) h (a .reads) (batch-ends (inodeBefore any last) a b f) e;
       places =
-          rw (p .places, append-assoc, ← (batch-places (inodeBefore any last) a b1 b2 b3 b4 f e left h)) (w .places);
+          rw (p .places, append-assoc, ← (batch-places (inodeBefore any last) a b f e left h)) (w .places);
       few = omega (arith, p .few, w .few);
       wide = p .wide;
       base = p .base ∙ w .base;

@@ -29,9 +29,12 @@ listIf (some p) = p ∷ []
 abbrev pub deltasOf : InodeLayerStack → List ℕ
 deltasOf s = take (s .count) (s .deltas)
 
--- the head of a batch: id, bytes, operations, reason, commit time
+-- "Batch: id, bytes, operations, reason 1 to 5, commit time, records": its head, and the rest of that after the id
+abbrev pub headRest : Codec (ℕ × (ℕ × (ℕ × Time)))
+headRest = word then word then between 1 5 refl then moment
+
 abbrev pub batchHead : Codec (ℕ × (ℕ × (ℕ × (ℕ × Time))))
-batchHead = inode then word then word then between 1 5 refl then moment
+batchHead = inode then headRest
 
 -- the place of an inode's record in the list of records at the front of s
 abbrev pub recordPlace : ℕ → ℕ → List ℕ → Option ℕ

@@ -3,9 +3,10 @@ ghost use Prim.Native.Nat.{_≤_};
 ghost use mathlib.Core.Path.{_≡_, refl};
 ghost use lib.ListN.{length};
 ghost use Rattle.wire.specs.Number.{between};
+ghost use Rattle.wire.specs.Reading.{Reads};
 ghost use Rattle.image.specs.Places.{Ends};
 ghost use Rattle.image.specs.Held.{placeOf};
-ghost use Rattle.image.specs.Gathering.{Pushed, Gathers, GathersQueue};
+ghost use Rattle.image.specs.Gathering.{headRest, Pushed, Gathers, GathersQueue};
 use crate::field::pass_number;
 use crate::field::pass_time;
 use crate::inode::Held;
@@ -14,6 +15,8 @@ use crate::inode::find_inode;
 use crate::inode::inode_after;
 use wire::cursor::Cursor;
 use wire::cursor::Fault;
+use wire::number::NumberRead;
+use wire::number::no_number;
 use wire::number::read_number;
 
 // An inode's node in the base, and its records in the layers that have one: `count` places, the front batch's first.
@@ -48,20 +51,31 @@ pub fn pushed(stack: InodeLayerStack, place: Place) -> InodeLayerStack
 }
 
 // A reason, from 1 to 5.
-fn pass_reason(img: &[u8], at: Cursor) -> Cursor
-    ensures { λ r. ⌜ Ends (now (img .entry)) (between 1 5 refl .read) at r ⌝ }
+pub fn read_reason(img: &[u8], at: Cursor) -> NumberRead
+    ensures { λ r. ⌜ Reads (now (img .entry)) (between 1 5 refl .read) at (r .value) (r .next) ⌝ }
 {
     let reason = read_number(img, at, 5);
     let next = reason.next;
     match next {
         Cursor::At(_) => {
             if reason.value == 0 {
-                return Cursor::Stop(Fault::Malformed);
+                return no_number(Fault::Malformed);
             }
-            next
+            reason
         }
-        Cursor::Stop(_) => next,
+        Cursor::Stop(_) => reason,
     }
+}
+
+// Passes the rest of a batch's head: bytes, operations, reason and commit time.
+fn pass_head_rest(img: &[u8], at: Cursor) -> Cursor
+    ensures { λ r. ⌜ Ends (now (img .entry)) (headRest .read) at r ⌝ }
+{
+    let operations = pass_number(img, at, 0xFFFF_FFFF);
+    let reasoned = pass_number(img, operations, 0xFFFF_FFFF);
+    let reason = read_reason(img, reasoned);
+    let committed = reason.next;
+    pass_time(img, committed)
 }
 
 // Passes `count` batches, the first of which is at `first`, and pushes the places of the records that they hold of one inode.
@@ -83,10 +97,7 @@ fn gather_batches(
     while 0 < left {
         let id = inode_after(img, Cursor::At(here), any, last);
         let named = id.next;
-        let operations = pass_number(img, named, 0xFFFF_FFFF);
-        let reason = pass_number(img, operations, 0xFFFF_FFFF);
-        let committed = pass_reason(img, reason);
-        let records = pass_time(img, committed);
+        let records = pass_head_rest(img, named);
         let found = find_inode(img, records, Held::Record, sought);
         let next = found.next;
         let Cursor::At(end) = next else {

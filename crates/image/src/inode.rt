@@ -5,7 +5,7 @@ ghost use lib.ListN.{length};
 ghost use Rattle.wire.specs.Combinators.{only};
 ghost use Rattle.wire.specs.Orders.{byNumber};
 ghost use Rattle.wire.specs.Lists.{after};
-ghost use Rattle.wire.specs.Reading.{Answers, noNumber};
+ghost use Rattle.wire.specs.Reading.{Answers};
 ghost use Rattle.image.specs.FieldLayout.{inode};
 ghost use Rattle.image.specs.Places.{Ends, inodeBefore};
 ghost use Rattle.image.specs.Held.{held, orHere, Finds, FindsRows};
@@ -14,6 +14,7 @@ use crate::record::pass_record;
 use wire::cursor::Cursor;
 use wire::cursor::Fault;
 use wire::number::NumberRead;
+use wire::number::no_number;
 use wire::number::read_number;
 
 // What stands under each inode of a list.
@@ -43,21 +44,12 @@ pub fn inode_after(img: &[u8], at: Cursor, any: bool, before: u64) -> NumberRead
         Cursor::At(_) => {
             if any {
                 if number.value <= before {
-                    return not_after();
+                    return no_number(Fault::Malformed);
                 }
             }
             number
         }
         Cursor::Stop(_) => number,
-    }
-}
-
-fn not_after() -> NumberRead
-    ensures { λ r. ⌜ r ≡ noNumber Fault.Malformed ⌝ }
-{
-    NumberRead {
-        value: 0,
-        next: Cursor::Stop(Fault::Malformed),
     }
 }
 

@@ -1,12 +1,12 @@
 // Lists by name: entries, removed names, attributes, attribute changes.
 ghost use Prim.Native.Nat.{_≤_};
-ghost use mathlib.Core.Path.{_≡_, refl};
+ghost use mathlib.Core.Path.{refl};
 ghost use mathlib.Core.Option.{none};
 ghost use lib.ListN.{length};
 ghost use Rattle.wire.specs.Combinators.{only};
 ghost use Rattle.wire.specs.Orders.{byBytes};
 ghost use Rattle.wire.specs.Lists.{after, rising, lastCount};
-ghost use Rattle.wire.specs.Reading.{AnswersPart, cursorIn, noText};
+ghost use Rattle.wire.specs.Reading.{AnswersPart, cursorIn};
 ghost use Rattle.image.specs.FieldLayout.{name as nameText};
 ghost use Rattle.image.specs.Under.{under};
 ghost use Rattle.image.specs.Places.{Ends, nameBefore, rowsFrom};
@@ -20,6 +20,7 @@ use wire::order::Ordering;
 use wire::order::compare_part;
 use wire::part::part;
 use wire::text::TextRead;
+use wire::text::no_text;
 use wire::text::read_text;
 
 // What stands under each name of a list.
@@ -41,20 +42,10 @@ pub fn name_after(img: &[u8], at: Cursor, start: usize, size: usize) -> TextRead
     match next {
         Cursor::At(_) => match compare_part(img, start, size, part(img, here, length)) {
             Ordering::Less => name,
-            Ordering::Equal => not_after(),
-            Ordering::Greater => not_after(),
+            Ordering::Equal => no_text(Fault::Malformed),
+            Ordering::Greater => no_text(Fault::Malformed),
         },
         Cursor::Stop(_) => name,
-    }
-}
-
-fn not_after() -> TextRead
-    ensures { λ r. ⌜ r ≡ noText Fault.Malformed ⌝ }
-{
-    TextRead {
-        start: 0,
-        length: 0,
-        next: Cursor::Stop(Fault::Malformed),
     }
 }
 

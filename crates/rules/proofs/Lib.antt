@@ -21,3 +21,15 @@ pub mod Unrefused
 pub mod StoreFits
 pub mod ResultImage
 pub mod ListImage
+pub mod MapValues
+pub mod Forgotten
+pub mod PlacedStack
+pub mod ListPlaces
+pub mod Standing
+pub mod Asked
+pub mod ReadExamples
+pub mod DemandBytes
+pub mod AppliedBytes
+pub mod Written
+pub mod SixStores
+pub mod Variants

@@ -1,13 +1,12 @@
 -- A list is no longer than what is written of it. So what fits with some counts, and is written in n bytes, fits with counts up to n.
 use mathlib.Core.Option.{Option, none, some}
 use mathlib.Core.List.{List, [], _∷_, _++_}
-use mathlib.Core.Logic.{⊎-elim}
 use Prim.Native.Nat.{ℕ, _≤_}
 use native.Mathlib.Omega.{arith}
 use lib.ListN.{length, length-append}
 use Rattle.wire.specs.Codec.{Codec}
 use Rattle.wire.specs.Combinators.{nothing, opt-write}
-use Rattle.wire.specs.Number.{numberBytes, number-small, number-big, lt-or-ge}
+use Rattle.wire.specs.Number.{numberBytes, number-one}
 use Rattle.wire.specs.Text.{textBytes}
 use Rattle.wire.specs.Order.{Order}
 use Rattle.wire.specs.Orders.{byNumber, byBytes}
@@ -22,9 +21,6 @@ use Rattle.image.specs.RecordLayout.{changes, fields, changePart, changePartOf,
 use Rattle.image.specs.StoreLayout.{batchAfter, idOf, batches, store}
 use Rattle.image.specs.RoundTrip.{writeImage}
 use Rattle.image.specs.Meaning.{kindOf, changedKind}
-
-number-one : (n : ℕ) → 1 ≤ length (numberBytes n)
-number-one n = ⊎-elim (λ l. rw (number-small n l) (omega arith)) (λ l. rw (number-big n l) (omega arith)) (lt-or-ge n 128)
 
 text-one : (t : Text) → 1 ≤ length (textBytes t)
 text-one t = omega (arith, number-one (length t), length-append (numberBytes (length t)) t)

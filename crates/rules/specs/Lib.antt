@@ -18,3 +18,10 @@ pub mod Table
 pub mod Orderly
 pub mod Demand
 pub mod Room
+pub mod Starts
+pub mod PlacedReads
+pub mod PlacedStacks
+pub mod ReadCalls
+pub mod ChangeCalls
+pub mod Behaviour
+pub mod WrongStores

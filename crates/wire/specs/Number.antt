@@ -8,6 +8,7 @@ use Prim.Native.Nat.{ℕ, zero, suc, _+_, _-_, _*_, _/_, _%_, _^_, _≤_, _<_}
 use native.Mathlib.Nat.{div-lt-iff-lt-mul, pow-suc}
 use native.Mathlib.Omega.{arith}
 use lib.Dec.{ltb, leb}
+use lib.ListN.{length}
 use borrow.Author.Tests.{lt-ltb, le-ltb, le-leb, ltb-true, ltb-false, leb-true}
 use Rattle.wire.specs.Parse.{Parsed, fault, got, bind, check, never-got, bind-inv, check-inv, Extends, bind-extends, check-extends}
 use Rattle.wire.specs.Codec.{Codec, Bytes}
@@ -85,6 +86,10 @@ unfolding numberBytes groups
 number-big n h =
     groups-fuel n (suc n) n (omega arith) (omega arith)
     ∙ simp (le-ltb n 128 h) (rw (groups-fuel n (n / 128) (n / 128) (omega arith) (omega arith)))
+
+-- a number is at least one byte long
+pub number-one : (n : ℕ) → 1 ≤ length (numberBytes n)
+number-one n = ⊎-elim (λ l. rw (number-small n l) (omega arith)) (λ l. rw (number-big n l) (omega arith)) (lt-or-ge n 128)
 
 -- ---- what was written reads back
 

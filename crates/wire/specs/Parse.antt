@@ -15,6 +15,10 @@ abbrev pub bind : {A B : Type 0} → Parsed A → (A → List ℕ → Parsed B) 
 bind (fault f) k = fault f
 bind (got a s) k = k a s
 
+pub bind-bind : {A B C : Type 0} (o : Parsed A) (f : A → List ℕ → Parsed B) (g : B → List ℕ → Parsed C) → bind (bind o f) g ≡ bind o (λ a r. bind (f a r) g)
+bind-bind (fault y) f g = refl
+bind-bind (got a r) f g = refl
+
 -- p where the test passes, and the fault where not
 abbrev pub check : {A : Type 0} → Fault → Bool → Parsed A → Parsed A
 check f true p = p

@@ -100,7 +100,8 @@ fn judged(value: u64, most: u64, next: usize) -> NumberRead
     }
 }
 
-fn no_number(fault: Fault) -> NumberRead
+// The answer where a reading stops.
+pub fn no_number(fault: Fault) -> NumberRead
     ensures { λ r. ⌜ r ≡ noNumber fault ⌝ }
 {
     NumberRead {

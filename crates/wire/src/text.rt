@@ -43,7 +43,8 @@ pub fn read_text(s: &[u8], at: Cursor, least: u64, most: u64) -> TextRead
     }
 }
 
-fn no_text(fault: Fault) -> TextRead
+// The answer where a reading stops.
+pub fn no_text(fault: Fault) -> TextRead
     ensures { λ r. ⌜ r ≡ noText fault ⌝ }
 {
     TextRead {

@@ -16,17 +16,8 @@ loop-holds c = going-start (c .before .pre .0) (c .before .pre .2) (c .before .p
 inode-after-requires : tie.Need-inode-after-requires Inv-loop μ-loop
 inode-after-requires c κs = search needs
 
-pass-number-requires : tie.Need-pass-number-requires Inv-loop μ-loop
-pass-number-requires c κs = search needs
-
-pass-number-requires-2 : tie.Need-pass-number-requires-2 Inv-loop μ-loop
-pass-number-requires-2 c κs = search needs
-
-pass-reason-requires : tie.Need-pass-reason-requires Inv-loop μ-loop
-pass-reason-requires c κs = search needs
-
-pass-time-requires : tie.Need-pass-time-requires Inv-loop μ-loop
-pass-time-requires c κs = search needs
+pass-head-rest-requires : tie.Need-pass-head-rest-requires Inv-loop μ-loop
+pass-head-rest-requires c κs = search needs
 
 find-inode-requires : tie.Need-find-inode-requires Inv-loop μ-loop
 find-inode-requires c κs = search needs
@@ -38,10 +29,10 @@ enum-told : tie.Need-enum-told Inv-loop μ-loop
 enum-told c = search needs
 
 returns : tie.Need-returns Inv-loop μ-loop
-returns c = going-stop (c .before .before .before .before .before .before .before .before .before .loop .inv) (c .before .before .before .before .before .before .before .before .loop-test .taken) (c .before .before .before .before .before .before .before .inode-after .ensures) (c .before .before .before .before .before .before .pass-number .ensures) (c .before .before .before .before .before .pass-number2 .ensures) (c .before .before .before .before .pass-reason .ensures) (c .before .before .before .pass-time .ensures) (c .before .before .find-inode .ensures) (c .enum-told .given .1)
+returns c = going-stop (c .before .before .before .before .before .before .loop .inv) (c .before .before .before .before .before .loop-test .taken) (c .before .before .before .before .inode-after .ensures) (c .before .before .before .pass-head-rest .ensures) (c .before .before .find-inode .ensures) (c .enum-told .given .1)
 
 pushed-requires : tie.Need-pushed-requires Inv-loop μ-loop
-pushed-requires c κs = (omega (arith, c .before .before .before .before .before .before .before .before .before .before .loop .inv .few, c .before .before .before .before .before .before .before .before .before .before .before .before .pre .1), c .before .before .before .before .before .before .before .before .before .before .loop .inv .wide)
+pushed-requires c κs = (omega (arith, c .before .before .before .before .before .before .before .loop .inv .few, c .before .before .before .before .before .before .before .before .before .pre .1), c .before .before .before .before .before .before .before .loop .inv .wide)
 
 sub-left : tie.Need-sub-left Inv-loop μ-loop
 sub-left c = search needs
@@ -50,7 +41,7 @@ loop-less : tie.Need-loop-less Inv-loop μ-loop
 loop-less c = search needs
 
 loop-again : tie.Need-loop-again Inv-loop μ-loop
-loop-again c = going-on (c .before .before .before .before .before .before .before .before .before .before .before .loop .inv) (c .before .before .before .before .before .before .before .before .before .before .loop-test .taken) (c .before .before .before .before .before .before .before .before .before .inode-after .ensures) (c .before .before .before .before .before .before .before .before .pass-number .ensures) (c .before .before .before .before .before .before .before .pass-number2 .ensures) (c .before .before .before .before .before .before .pass-reason .ensures) (c .before .before .before .before .before .pass-time .ensures) (c .before .before .before .before .find-inode .ensures) (c .before .before .next .given .1) (c .pushed .ensures)
+loop-again c = going-on (c .before .before .before .before .before .before .before .before .loop .inv) (c .before .before .before .before .before .before .before .loop-test .taken) (c .before .before .before .before .before .before .inode-after .ensures) (c .before .before .before .before .before .pass-head-rest .ensures) (c .before .before .before .before .find-inode .ensures) (c .before .before .next .given .1) (c .pushed .ensures)
 
 returns-2 : tie.Need-returns-2 Inv-loop μ-loop
 returns-2 c = going-all (c .before .loop .inv) (c .loop-test .left)
@@ -63,10 +54,7 @@ gather-batches-spec =
     μ-loop
     loop-holds
     inode-after-requires
-    pass-number-requires
-    pass-number-requires-2
-    pass-reason-requires
-    pass-time-requires
+    pass-head-rest-requires
     find-inode-requires
     enum-known-next
     enum-told

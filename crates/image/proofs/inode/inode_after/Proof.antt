@@ -9,11 +9,11 @@ read-number-requires c κs = search needs
 enum-told : tie.Need-enum-told
 enum-told c = search needs
 
-not-after-requires : tie.Need-not-after-requires
-not-after-requires c κs = search needs
+no-number-requires : tie.Need-no-number-requires
+no-number-requires c κs = search needs
 
 returns : tie.Need-returns
-returns c = inode-refused (c .before .before .before .before .before .before .read-number .ensures) (c .before .before .before .before .before .before .before .before .args .any) (c .before .before .before .before .before .before .before .before .args .before) (c .before .before .before .if1 .taken) (c .before .before .before .before .enum-told .given .1) (c .before .if2 .taken) (c .not-after .ensures)
+returns c = inode-refused (c .before .before .before .before .before .before .read-number .ensures) (c .before .before .before .before .before .before .before .before .args .any) (c .before .before .before .before .before .before .before .before .args .before) (c .before .before .before .if1 .taken) (c .before .before .before .before .enum-told .given .1) (c .before .if2 .taken) (c .no-number .ensures)
 
 enum-told-2 : tie.Need-enum-told-2
 enum-told-2 c = search needs
@@ -33,7 +33,7 @@ inode-after-spec =
     (tie.spec
     read-number-requires
     enum-told
-    not-after-requires
+    no-number-requires
     returns
     enum-told-2
     returns-2

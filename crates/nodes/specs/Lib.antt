@@ -1,0 +1,9 @@
+-- Nodes and records by value, and what they mean in their image.
+pub mod Options
+pub mod Listed
+pub mod Attrs
+pub mod Deltas
+pub mod Nodes
+pub mod Writes
+pub mod Batches
+pub mod Tails
