@@ -4,3 +4,4 @@ pub mod Values
 pub mod Deltas
 pub mod Nodes
 pub mod Writing
+pub mod Records

@@ -5,5 +5,6 @@ pub mod Attrs
 pub mod Deltas
 pub mod Nodes
 pub mod Writes
+pub mod Records
 pub mod Batches
 pub mod Tails

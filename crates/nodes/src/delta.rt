@@ -3,7 +3,7 @@ ghost use Prim.Native.Nat.{_≤_};
 ghost use mathlib.Core.Path.{_≡_};
 ghost use Rattle.image.specs.Meaning.{directory, file, symlink};
 ghost use Rattle.image.specs.KindLayout.{kindAt};
-ghost use Rattle.nodes.specs.Deltas.{specialDelta, ReadsDelta, ReadsEntry};
+ghost use Rattle.nodes.specs.Deltas.{attrOf, specialDelta, ReadsDelta, ReadsEntry};
 use crate::attr::AttrDelta;
 use crate::attr::read_attr_delta;
 use crate::option::OptionPart;
@@ -63,6 +63,42 @@ pub struct EntryDeltaRead {
 pub struct NodeDeltaRead {
     pub delta: NodeDelta,
     pub next: Cursor,
+}
+
+// The attribute changes of a delta, whatever its kind.
+pub fn attr_delta(delta: NodeDelta) -> AttrDelta
+    ensures { λ r. ⌜ r ≡ attrOf delta ⌝ }
+{
+    match delta {
+        NodeDelta::Directory(directory) => {
+            let attr_delta = directory.attr_delta;
+            attr_delta
+        }
+        NodeDelta::File(file) => {
+            let attr_delta = file.attr_delta;
+            attr_delta
+        }
+        NodeDelta::Symlink(symlink) => {
+            let attr_delta = symlink.attr_delta;
+            attr_delta
+        }
+        NodeDelta::Fifo(special) => {
+            let attr_delta = special.attr_delta;
+            attr_delta
+        }
+        NodeDelta::CharDevice(special) => {
+            let attr_delta = special.attr_delta;
+            attr_delta
+        }
+        NodeDelta::BlockDevice(special) => {
+            let attr_delta = special.attr_delta;
+            attr_delta
+        }
+        NodeDelta::Socket(special) => {
+            let attr_delta = special.attr_delta;
+            attr_delta
+        }
+    }
 }
 
 // The record at `at`, from its code on. Where there is none, the delta says nothing.

@@ -9,3 +9,4 @@ pub mod part;
 pub mod tail;
 pub mod write;
 pub mod write_attr;
+pub mod write_node;
