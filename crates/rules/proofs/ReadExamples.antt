@@ -68,7 +68,7 @@ reads =
     ∷ claim (hasXattr usual image 1 a) (answer false)
     ∷ []
 
--- 2 comes before 3, and 5 where there are fewer rows than entries
+-- 2 comes before 3, and 5 where there are fewer rows than entries; rows stay where a call is refused, and where it answers none
 abbrev refusals : List Claim
 refusals =
     claim (lookupChild usual (1 ∷ 1 ∷ []) 1 []) (refused 2)
@@ -78,9 +78,10 @@ refusals =
     ∷ claim (listDirectory usual image 1 2) (refused 5)
     ∷ claim (listXattrs usual image 1 1) (refused 5)
     ∷ claim (filled (listXattrs usual image 1 1) (row 7 7 ∷ [])) (row 7 7 ∷ [])
+    ∷ claim (filled (listDirectory usual image 2 1) (row 7 7 ∷ [])) (row 7 7 ∷ [])
     ∷ []
 
 pub reads-hold : HoldAll (listings ∷ reads ∷ refusals ∷ [])
 unfolding overImage decode store batches node kind meta layerRecord code fields time rising-read text-read number-read groups-read numberBytes groups opt-read asMap rising? under? empty get put over merge set insert remove lookup reply look stackOn placeUnder batchPlaces nodePlace recordPlaces recordsOn lookPlaced starts startRows entryRows attributeRows
 reads-hold =
-    ((refl, (refl, (refl, (refl, tt)))), ((refl, (refl, (refl, (refl, (refl, (refl, (refl, (refl, (refl, tt))))))))), ((refl, (refl, (refl, (refl, (refl, (refl, (refl, tt))))))), tt)))
+    ((refl, (refl, (refl, (refl, tt)))), ((refl, (refl, (refl, (refl, (refl, (refl, (refl, (refl, (refl, tt))))))))), ((refl, (refl, (refl, (refl, (refl, (refl, (refl, (refl, tt)))))))), tt)))
