@@ -200,6 +200,10 @@ queue-holds img i n {bs} {r} h e =
     (subst (λ (l : List Batch). AllHold img (layerRecord .read) (batchPlaces (length img) i (c .0) (c .1)) (batchRecords i l)) (m .2)
     (batches-hold img i (c .0) none (c .1) w (c .3)))
 
+-- A survey of an image that is read to its end ends at a place.
+pub survey-end : {img : List ℕ} {i : ℕ} {r : Survey} {s : Store} → Surveys img i r → readImage img ≡ got s [] → (q : ℕ) × (r .end ≡ At q)
+survey-end {img} {r = r} w e = let q = ends-place (r .end) (w .ends) (read-whole img e) in (q .0, q .1)
+
 -- What a survey found of an inode is what the image's store has: its node, and its record in each layer that has one, the front batch's first.
 pub record SurveyHolds (img : List ℕ) (i : ℕ) (r : Survey) (s : Store) : Type 0 where
   pub node-held : Holds img (node .read) (placeOf (r .stack .base)) (get byNumber i (s .base))

@@ -2,7 +2,8 @@
 use mathlib.Core.Path.{_≡_, refl}
 use mathlib.Core.List.{List, _++_}
 use mathlib.Core.Option.{Option}
-use Prim.Native.Nat.{ℕ}
+use Prim.Native.Nat.{ℕ, _≤_}
+use lib.ListN.{length}
 use Rattle.wire.specs.declared.cursor.Cursor.the-variants as C
 use Rattle.wire.specs.Codec.{Codec}
 use Rattle.wire.specs.Combinators.{_then_, only}
@@ -31,3 +32,9 @@ pub record Surveys (img : List ℕ) (sought : ℕ) (r : Survey) : Type 0 where
   pub node : (q : ℕ) → r .end ≡ C.At q → placeOf (r .stack .base) ≡ placeIn byNumber inode node img sought (C.At 0)
   pub deltas : (q : ℕ) → r .end ≡ C.At q
       → deltasOf (r .stack) ≡ queuePlaces img sought (r .batches) ++ listIf (placeIn byNumber inode layerRecord img sought (r .live))
+
+-- the survey of the one pass: its stack has room for 16 batches and live
+pub record Surveyed (img : List ℕ) (sought : ℕ) (r : Survey) : Type 0 where
+  pub surveys : Surveys img sought r
+  pub few : r .stack .count ≤ 17
+  pub wide : length (r .stack .deltas) ≡ 17

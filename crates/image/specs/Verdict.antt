@@ -9,7 +9,7 @@ use lib.ListN.{length}
 use Rattle.wire.specs.Parse.{Parsed, fault, got}
 use Rattle.image.specs.Meaning.{Store}
 use Rattle.image.specs.RoundTrip.{readImage}
-use Rattle.image.specs.Survey.{Surveys}
+use Rattle.image.specs.Survey.{Surveyed}
 use Rattle.image.specs.declared.store.Verdict.{Verdict}
 use Rattle.image.specs.declared.store.Verdict.the-variants as D
 use Rattle.image.specs.declared.store.ImageRead.{ImageRead}
@@ -19,6 +19,12 @@ abbrev pub refusalOf : Verdict → Option ℕ
 refusalOf D.Fine = none
 refusalOf D.TooLong = some 1
 refusalOf D.Broken = some 2
+
+-- the same, 0 for none
+abbrev pub refusalNumber : Verdict → ℕ
+refusalNumber D.Fine = 0
+refusalNumber D.TooLong = 1
+refusalNumber D.Broken = 2
 
 -- both faults are refusal 2 today (document 02, T-09, parts them)
 abbrev pub judge : Parsed Store → Verdict
@@ -31,4 +37,4 @@ verdictOf img = cond (ltb 65536 (length img)) D.TooLong (judge (readImage img))
 -- the verdict, and the survey where the image is fine
 pub record Judges (img : List ℕ) (sought : ℕ) (r : ImageRead) : Type 0 where
   pub verdict : r .verdict ≡ verdictOf img
-  pub survey : r .verdict ≡ D.Fine → Surveys img sought (r .survey)
+  pub survey : r .verdict ≡ D.Fine → Surveyed img sought (r .survey)

@@ -50,7 +50,7 @@ pub fn name_after(img: &[u8], at: Cursor, start: usize, size: usize) -> TextRead
 }
 
 // Passes what stands under a name.
-fn pass_under(img: &[u8], at: Cursor, what: Under) -> Cursor
+pub fn pass_under(img: &[u8], at: Cursor, what: Under) -> Cursor
     requires { ⌜ cursorIn (now img) at ⌝ }
     ensures { λ r. ⌜ Ends (now (img .entry)) (under what .read) at r ⌝ }
 {

@@ -1,7 +1,8 @@
 // The one pass over an image.
+ghost use mathlib.Core.Path.{_≡_};
 ghost use Rattle.image.specs.Places.{Ends, inodeBefore};
-ghost use Rattle.image.specs.Survey.{tailAfter, Surveys};
-ghost use Rattle.image.specs.Verdict.{Judges};
+ghost use Rattle.image.specs.Survey.{tailAfter, Surveyed};
+ghost use Rattle.image.specs.Verdict.{Judges, refusalNumber};
 use crate::batch::InodeLayerStack;
 use crate::batch::gather_queue;
 use crate::batch::pushed;
@@ -23,7 +24,7 @@ pub struct Survey {
 
 // Judges the store at the start of the image, field by field, and gathers the places of one inode's node and records on the way.
 pub fn survey_store(img: &[u8], sought: u64) -> Survey
-    ensures { λ r. ⌜ Surveys (now (img .entry)) sought r ⌝ }
+    ensures { λ r. ⌜ Surveyed (now (img .entry)) sought r ⌝ }
 {
     let base = find_inode(img, Cursor::At(0), Held::Node, sought);
     let batches = base.next;
@@ -61,6 +62,17 @@ pub enum Verdict {
     Fine,
     TooLong,
     Broken,
+}
+
+// The number of the refusal, 0 if there is none.
+pub fn refusal_number(verdict: Verdict) -> u32
+    ensures { λ r. ⌜ r ≡ refusalNumber verdict ⌝ }
+{
+    match verdict {
+        Verdict::Fine => 0,
+        Verdict::TooLong => 1,
+        Verdict::Broken => 2,
+    }
 }
 
 pub struct ImageRead {

@@ -3,5 +3,4 @@ pub mod Reading
 pub mod Values
 pub mod Deltas
 pub mod Nodes
-pub mod Writing
-pub mod Records
+pub mod Others

@@ -4,7 +4,3 @@ pub mod Listed
 pub mod Attrs
 pub mod Deltas
 pub mod Nodes
-pub mod Writes
-pub mod Records
-pub mod Batches
-pub mod Tails

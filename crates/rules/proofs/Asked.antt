@@ -16,7 +16,8 @@ use Rattle.wire.specs.Lists.{Every}
 use Rattle.image.specs.Meaning.{Text, Kind, Entries, Attributes, Store, directory, file, symlink, special}
 use Rattle.image.specs.StoreLayout.{store}
 use Rattle.image.specs.RoundTrip.{readImage}
-use Rattle.image.specs.Verdict.{refusalOf, verdictOf, judge}
+use Rattle.image.specs.Verdict.{refusalOf, refusalNumber, verdictOf, judge}
+use Rattle.image.specs.declared.store.Verdict.{Verdict}
 use Rattle.image.specs.declared.store.Verdict.the-variants as D
 use Rattle.rules.specs.Initial.{Initial}
 use Rattle.rules.specs.Answers.{Answer, refused, firstOf, unless}
@@ -71,6 +72,16 @@ verdict-fine img v = go (ltb 65536 (length img)) refl (readImage img) refl v
     go true l o e d = absurd (let z : _≡_ {A = ℕ} 0 1 = cc in omega arith)
     go false l (fault f) e d = absurd (let z : _≡_ {A = ℕ} 0 1 = cc in omega arith)
     go false l (got s r) e d = (s, read-end img e, ltb-false 65536 (length img) l)
+
+pub number-refused : (v : Verdict) {n : ℕ} → n ≡ refusalNumber v → (n ≡ 0 → ⊥) → refusalOf v ≡ some n
+number-refused D.Fine e z = absurd (z e)
+number-refused D.TooLong e z = ap some (sym e)
+number-refused D.Broken e z = ap some (sym e)
+
+pub number-fine : (v : Verdict) {n : ℕ} → n ≡ refusalNumber v → n ≡ 0 → v ≡ D.Fine
+number-fine D.Fine e z = refl
+number-fine D.TooLong e z = absurd (omega arith)
+number-fine D.Broken e z = absurd (omega arith)
 
 pub verdict-refused : {A : Type 0} (f : Store → Answer A) (img : List ℕ) (n : ℕ) → refusalOf (verdictOf img) ≡ some n → overImage f img ≡ refused n
 unfolding verdictOf overImage

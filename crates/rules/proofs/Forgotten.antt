@@ -15,18 +15,12 @@ use Rattle.rules.specs.Reads.{look, entries, bodyEntries, changeEntries,
 use Rattle.rules.specs.Changes.{mapIf}
 use Rattle.rules.specs.Starts.{Placed, Started, startRows, starts, attributesAt, entriesAt, changesAt, addedAt}
 use Rattle.rules.specs.PlacedReads.{lookPlaced, bodyStarts, changeStarts, recordStarts, placedEntries, setStart, alterStarts, recordValueStarts, placedValues}
+use Rattle.rules.specs.PlacedStacks.{unplaced, unplacedNode}
 use Rattle.rules.proofs.MapValues.{mapValues, mapRow, map-empty, map-merge, map-same}
 
 -- what stands under each name, without its start
 abbrev pub forgotten : {A : Type 0} → Started A → Map byBytes A
 forgotten {A} m = mapValues byBytes (λ (x : ℕ × A). x .1) m
-
--- the stack without places
-abbrev pub unplaced : List (Placed Record) → List Record
-unplaced rs = map (λ r. r .held) rs
-
-abbrev pub unplacedNode : Option (Placed Node) → Option Node
-unplacedNode b = mapIf (λ n. n .held) b
 
 -- ---- a list
 

@@ -29,8 +29,7 @@ use Rattle.image.proofs.Holding.{suffix-drop, suffix-rest}
 use Rattle.image.proofs.Surveyed.{AllHold, ifThere, batchRecords, recordsOf, survey-holds}
 use Rattle.rules.specs.Stacks.{over?, stackOn, stack, withLive, layers}
 use Rattle.rules.specs.Starts.{Placed}
-use Rattle.rules.specs.PlacedStacks.{cursorAfter, batchesAt, liveAt, nodePlace, recordPlaces, readAt, nodeAt, onTop, recordsOn, placedRecords, placedNode}
-use Rattle.rules.proofs.Forgotten.{unplaced, unplacedNode}
+use Rattle.rules.specs.PlacedStacks.{cursorAfter, batchesAt, liveAt, nodePlace, recordPlaces, readAt, nodeAt, onTop, recordsOn, placedRecords, placedNode, unplaced, unplacedNode}
 
 -- ---- cursors
 

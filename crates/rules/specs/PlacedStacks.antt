@@ -1,6 +1,6 @@
 -- The stack of an inode in an image, each node and record with its place. Whatever the bytes are, it is defined.
 use mathlib.Core.Option.{Option, none, some}
-use mathlib.Core.List.{List, [], _∷_, _++_}
+use mathlib.Core.List.{List, [], _∷_, _++_, map}
 use Prim.Native.Nat.{ℕ, _-_}
 use lib.ListN.{length, drop}
 use Rattle.wire.specs.declared.cursor.Cursor.{Cursor}
@@ -16,6 +16,7 @@ use Rattle.image.specs.RecordLayout.{layerRecord}
 use Rattle.image.specs.StoreLayout.{batches}
 use Rattle.image.specs.Places.{ifRead, placeIn}
 use Rattle.image.specs.Gathering.{listIf, queuePlaces}
+use Rattle.rules.specs.Changes.{mapIf}
 use Rattle.rules.specs.Starts.{Placed}
 
 -- ---- places
@@ -64,3 +65,10 @@ placedRecords img i = recordsOn img (recordPlaces img i) []
 
 abbrev pub placedNode : List ℕ → ℕ → Option (Placed Node)
 placedNode img i = nodeAt img (nodePlace img i)
+
+-- the stack without places
+abbrev pub unplaced : List (Placed Record) → List Record
+unplaced rs = map (λ r. r .held) rs
+
+abbrev pub unplacedNode : Option (Placed Node) → Option Node
+unplacedNode b = mapIf (λ n. n .held) b

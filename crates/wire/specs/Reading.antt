@@ -17,6 +17,11 @@ use Rattle.wire.specs.declared.text.TextRead.{TextRead}
 abbrev pub part : List ℕ → ℕ → ℕ → List ℕ
 part img start size = take size (drop start img)
 
+-- where a cursor stands; one that stopped, at 0
+abbrev pub placeAt : Cursor → ℕ
+placeAt (At n) = n
+placeAt (Stop f) = 0
+
 abbrev pub cursorIn : List ℕ → Cursor → Type 0
 cursorIn img (At n) = n ≤ length img
 cursorIn img (Stop f) = Unit {0}

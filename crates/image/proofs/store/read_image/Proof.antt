@@ -19,16 +19,16 @@ enum-known-end : tie.Need-enum-known-end
 enum-known-end c = search needs
 
 returns-2 : tie.Need-returns-2
-returns-2 c = record { verdict = is-longer (c .before .before .before .before .survey-store .ensures) (c .before .before .before .before .before .if1 .left) (c .before .before .end .given .1) (c .if2 .taken); survey = (λ z. absurd (let y : _≡_ {A = ℕ} 0 1 = cc in omega arith)) }
+returns-2 c = record { verdict = is-longer (c .before .before .before .before .survey-store .ensures .surveys) (c .before .before .before .before .before .if1 .left) (c .before .before .end .given .1) (c .if2 .taken); survey = (λ z. absurd (let y : _≡_ {A = ℕ} 0 1 = cc in omega arith)) }
 
 enum-told : tie.Need-enum-told
 enum-told c = search needs
 
 returns-3 : tie.Need-returns-3
-returns-3 c = record { verdict = is-fine (c .before .before .before .before .survey-store .ensures) (c .before .before .before .before .before .if1 .left) (c .before .before .end .given .1) (c .if2 .left); survey = λ z. c .before .before .before .before .survey-store .ensures }
+returns-3 c = record { verdict = is-fine (c .before .before .before .before .survey-store .ensures .surveys) (c .before .before .before .before .before .if1 .left) (c .before .before .end .given .1) (c .if2 .left); survey = λ z. c .before .before .before .before .survey-store .ensures }
 
 returns-4 : tie.Need-returns-4
-returns-4 c = record { verdict = is-broken (c .before .before .survey-store .ensures) (c .before .before .before .if1 .left) (c .enum-told .given .1); survey = (λ z. absurd (let y : _≡_ {A = ℕ} 0 1 = cc in omega arith)) }
+returns-4 c = record { verdict = is-broken (c .before .before .survey-store .ensures .surveys) (c .before .before .before .if1 .left) (c .enum-told .given .1); survey = (λ z. absurd (let y : _≡_ {A = ℕ} 0 1 = cc in omega arith)) }
 
 pub read-image-spec : {M : Type 1} → statement M
 read-image-spec =

@@ -1,3 +1,4 @@
+use native.Mathlib.Omega.{arith}
 use Rattle.image.proofs.Stores.{surveys}
 use borrow.Author.Needs.{needs}
 use Rattle.image.proofs.store.survey_store.Statement.{statement}
@@ -19,7 +20,7 @@ pushed-requires : tie.Need-pushed-requires
 pushed-requires c κs = search needs
 
 returns : tie.Need-returns
-returns c = surveys (c .before .before .before .before .before .find-inode .ensures) (c .before .before .before .before .gather-queue .ensures) (c .before .before .before .find-inode2 .ensures) (c .before .before .pass-tail .ensures) (c .pushed .ensures)
+returns c = record { surveys = surveys (c .before .before .before .before .before .find-inode .ensures) (c .before .before .before .before .gather-queue .ensures) (c .before .before .before .find-inode2 .ensures) (c .before .before .pass-tail .ensures) (c .pushed .ensures); few = omega arith; wide = c .pushed .ensures .wide }
 
 pub survey-store-spec : {M : Type 1} → statement M
 survey-store-spec =

@@ -1,0 +1,5 @@
+-- What the writers write.
+pub mod Writes
+pub mod Records
+pub mod Batches
+pub mod Tails
