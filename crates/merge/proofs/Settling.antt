@@ -1,0 +1,91 @@
+-- The rows that sources decide, one after the other.
+-- Assumes nothing.
+use mathlib.Core.Path.{_≡_, refl, sym, ap, _∙_}
+use mathlib.Core.Option.{none, some}
+use mathlib.Core.Bool.{Bool, true, false}
+use mathlib.Core.List.{List, [], _∷_, map}
+use Prim.Native.Nat.{ℕ, _+_, _≤_, _<_}
+use native.Mathlib.Omega.{arith}
+use lib.ListN.{length, drop, length-drop}
+use lib.Seq.{length-take-le}
+use borrow.Author.Tests.{lt-ltb, le-ltb}
+use Rattle.wire.specs.Orders.{byBytes}
+use Rattle.wire.specs.Reading.{part}
+use Rattle.merge.specs.Pile.{passAll, total, least, decisions}
+use Rattle.merge.specs.Sources.{rowAt, sourceRows}
+use Rattle.merge.specs.Merges.{sourcesOf, Least, PassedAll, Ready, plainRow, decidedRows, mergeRows, Settles, countOf}
+use Rattle.merge.specs.declared.source.Source.{Source}
+use Rattle.merge.specs.declared.merge.Sources.{Sources}
+use Rattle.merge.specs.declared.merge.Merge.{Merge}
+use Rattle.merge.specs.declared.merge.Counted.the-variants as C
+use Rattle.merge.proofs.Piles.{ascend-pass}
+use Rattle.merge.proofs.Unite.{decisions-end, decisions-step, decisions-fewer}
+use Rattle.merge.proofs.Sourced.{source-first}
+
+-- how many rows are left
+abbrev pub leftOf : List ℕ → Sources → ℕ
+leftOf img all = total (sourcesOf img all)
+
+-- names that are not given were passed
+pub record Settling (img : List ℕ) (all rest : Sources) : Type 0 where
+  pub same : decidedRows img all ≡ decidedRows img rest
+  pub ready : Ready img rest
+
+pub settling-none : {img : List ℕ} {all : Sources} → Ready img all → Settling img all all
+settling-none r = record { same = refl; ready = r }
+
+module _ {img : List ℕ} {all rest : Sources} (g : Settling img all rest) {best : Source} (l : Least img rest best) where
+  pub settled-none : best .left ≡ 0 → Settles img all (record { all = rest; more = false; start = 0; «length» = 0; inode = 0 })
+  settled-none e =
+      let n : least byBytes (sourcesOf img rest) ≡ none = rw e at (l .is) in
+      record { rows = g .same ∙ ap (map plainRow) (decisions-end byBytes (sourcesOf img rest) n); ready = g .ready }
+
+  module _ (h : best .left ≡ 0 → ⊥) {next : Sources} (p : PassedAll img rest (best .start) (best .length) next) where
+    found : least byBytes (sourcesOf img rest) ≡ some (rowAt img best)
+    found = rw (source-first img best h) at (l .is)
+
+    next-ready : Ready img next
+    next-ready = record { whole = p .whole; ascend = rw (p .are) (ascend-pass byBytes (part img (best .start) (best .length)) (sourcesOf img rest) (g .ready .ascend)) }
+
+    pub settling-less : leftOf img next < leftOf img rest
+    settling-less = rw (p .are) (decisions-fewer byBytes (sourcesOf img rest) found)
+
+    pub settling-more : best .given ≡ false → Settling img all next
+    settling-more e = record { same = g .same ∙ ap (map plainRow) (decisions-step byBytes (sourcesOf img rest) found (g .ready .ascend)) ∙ rw (e, p .are); ready = next-ready }
+
+    pub settled-given : best .given ≡ true → Settles img all (record { all = next; more = true; start = best .start; «length» = best .length; inode = best .inode })
+    settled-given e =
+        let z : length (part img (best .start) (best .length)) ≡ best .length = length-take-le (best .length) (drop (best .start) img) (omega (arith, length-drop (best .start) img, l .inside .ends)) in
+        record { rows = g .same ∙ ap (map plainRow) (decisions-step byBytes (sourcesOf img rest) found (g .ready .ascend)) ∙ rw (e, p .are, z); ready = next-ready }
+
+-- ---- how many
+
+pub record Counting (img : List ℕ) (merge : Merge) (room : ℕ) (rest : Merge) (n : ℕ) : Type 0 where
+  pub are : length (mergeRows img merge) ≡ n + length (mergeRows img rest)
+  pub low : n ≤ room
+  pub ready : Ready img (rest .all)
+
+pub counting-none : {img : List ℕ} {merge : Merge} {room : ℕ} → Ready img (merge .all) → Counting img merge room merge 0
+counting-none r = record { are = omega arith; low = omega arith; ready = r }
+
+module _ {img : List ℕ} {merge : Merge} {room : ℕ} {rest : Merge} {n : ℕ} (g : Counting img merge room rest n) where
+  pub counting-all : rest .more ≡ false → C.Rows n ≡ countOf (length (mergeRows img merge)) room
+  counting-all e =
+      let z : length (mergeRows img merge) ≡ n = rw e at (g .are) ∙ omega arith in
+      let low = g .low in
+      rw (z, le-ltb room n low)
+
+  pub counting-full : rest .more ≡ true → room ≤ n → C.TooMany ≡ countOf (length (mergeRows img merge)) room
+  counting-full e h =
+      let z = rw e at (g .are) in
+      rw (lt-ltb room (length (mergeRows img merge)) (omega (arith, z)))
+
+  module _ (e : rest .more ≡ true) {next : Merge} (t : Settles img (rest .all) next) where
+    one-row : length (mergeRows img rest) ≡ 1 + length (mergeRows img next)
+    one-row = rw (e, t .rows) (omega arith)
+
+    pub counting-less : length (mergeRows img next) < length (mergeRows img rest)
+    counting-less = omega (arith, one-row)
+
+    pub counting-more : n < room → Counting img merge room next (n + 1)
+    counting-more h = record { are = omega (arith, g .are, one-row); low = omega arith; ready = t .ready }

@@ -1,0 +1,85 @@
+-- Sources by value, and what merging them promises.
+use mathlib.Core.Path.{_≡_}
+use mathlib.Core.Bool.{Bool, true, false, cond}
+use lib.Dec.{ltb}
+use mathlib.Core.List.{List, [], _∷_, _++_, map}
+use Prim.Native.Nat.{ℕ, _+_, _≤_}
+use lib.ListN.{length, take, set}
+use Rattle.wire.specs.Orders.{byBytes}
+use Rattle.wire.specs.Lists.{Every}
+use Rattle.wire.specs.Reading.{part}
+use Rattle.image.specs.Meaning.{Text}
+use Rattle.rules.specs.ReadCalls.{Row, rowOf}
+use Rattle.merge.specs.Pile.{pass, passAll, Ascend, first, upper, least, decisions}
+use Rattle.merge.specs.Sources.{Decided, sourceRows, Inside}
+use Rattle.merge.specs.declared.source.Source.{Source}
+use Rattle.merge.specs.declared.merge.Sources.{Sources}
+use Rattle.merge.specs.declared.merge.Merge.{Merge}
+use Rattle.merge.specs.declared.merge.Counted.{Counted}
+use Rattle.merge.specs.declared.merge.Counted.the-variants as C
+
+-- the rows of each source, the topmost first
+abbrev pub sourcesOf : List ℕ → Sources → List (List Decided)
+sourcesOf img all = map (sourceRows img) (take (all .count) (all .rows))
+
+-- the array is whole, and each name in it is in the image
+pub record Whole (img : List ℕ) (all : Sources) : Type 0 where
+  pub wide : length (all .rows) ≡ 35
+  pub few : all .count ≤ 35
+  pub inside : Every (Inside img) (all .rows)
+
+pub record NoSources (r : Sources) : Type 0 where
+  pub whole : (img : List ℕ) → Whole img r
+  pub none-yet : r .count ≡ 0
+
+abbrev pub withSource : Sources → Source → Sources
+withSource all s = record { rows = set (all .rows) (all .count) s; count = all .count + 1 }
+
+pub record Upper (img : List ℕ) (a b r : Source) : Type 0 where
+  pub is : upper byBytes (first byBytes (sourceRows img a)) (first byBytes (sourceRows img b)) ≡ first byBytes (sourceRows img r)
+  pub inside : Inside img a → Inside img b → Inside img r
+
+pub record Least (img : List ℕ) (all : Sources) (r : Source) : Type 0 where
+  pub is : least byBytes (sourcesOf img all) ≡ first byBytes (sourceRows img r)
+  pub inside : Inside img r
+
+pub record Passed (img : List ℕ) (s : Source) (start size : ℕ) (r : Source) : Type 0 where
+  pub is : sourceRows img r ≡ pass byBytes (part img start size) (sourceRows img s)
+  pub inside : Inside img s → Inside img r
+
+pub record PassedAll (img : List ℕ) (all : Sources) (start size : ℕ) (r : Sources) : Type 0 where
+  pub are : sourcesOf img r ≡ passAll byBytes (part img start size) (sourcesOf img all)
+  pub whole : Whole img r
+
+-- ---- the rows, one after the other
+
+-- each source rises
+pub record Ready (img : List ℕ) (all : Sources) : Type 0 where
+  pub whole : Whole img all
+  pub ascend : Ascend byBytes (sourcesOf img all)
+
+abbrev pub plainRow : Text × (ℕ × ℕ) → Row
+plainRow = rowOf (λ inode. inode)
+
+-- what the sources decide, as rows
+abbrev pub decidedRows : List ℕ → Sources → List Row
+decidedRows img all = map plainRow (decisions byBytes (sourcesOf img all))
+
+abbrev pub rowOfMerge : Merge → Row
+rowOfMerge m = record { start = m .start; «length» = m .length; inode = m .inode }
+
+abbrev pub rowsIfMore : Bool → Row → List Row → List Row
+rowsIfMore true r l = r ∷ l
+rowsIfMore false r l = []
+
+-- the row that a merge is at, and those that follow
+abbrev pub mergeRows : List ℕ → Merge → List Row
+mergeRows img m = rowsIfMore (m .more) (rowOfMerge m) (decidedRows img (m .all))
+
+pub record Settles (img : List ℕ) (all : Sources) (m : Merge) : Type 0 where
+  pub rows : decidedRows img all ≡ mergeRows img m
+  pub ready : Ready img (m .all)
+
+-- how many rows there are, if there is room for them
+abbrev pub countOf : ℕ → ℕ → Counted
+countOf n room = cond (ltb room n) C.TooMany (C.Rows n)

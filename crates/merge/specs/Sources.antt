@@ -1,0 +1,96 @@
+-- Lists by name as sources of a listing. Document 01: "From the bottom: tombstone clears, a directory delta removes then adds, other kinds
+-- do nothing." So the topmost list that has a name decides it: the name is given, with its start and an inode, or removed.
+use mathlib.Core.Path.{_≡_}
+use mathlib.Core.Option.{Option, none, some}
+use mathlib.Core.Bool.{Bool, true, false}
+use mathlib.Core.List.{List, [], _∷_, _++_}
+use Prim.Native.Nat.{ℕ, zero, suc, _+_, _≤_}
+use lib.ListN.{length, drop}
+use Rattle.wire.specs.Parse.{Parsed, fault, got, bind}
+use Rattle.wire.specs.Combinators.{_then_}
+use Rattle.wire.specs.Number.{numberBytes, number-read}
+use Rattle.wire.specs.Lists.{lastCount}
+use Rattle.wire.specs.Reading.{part, Reads}
+use Rattle.wire.specs.declared.cursor.Cursor.{Cursor}
+use Rattle.image.specs.Meaning.{Text}
+use Rattle.image.specs.FieldLayout.{name}
+use Rattle.image.specs.Under.{UnderName, under}
+use Rattle.image.specs.declared.name.Under.{Under}
+use Rattle.image.specs.declared.name.Under.the-variants as U
+use Rattle.nodes.specs.declared.option.OptionPart.{OptionPart}
+use Rattle.nodes.specs.declared.option.OptionPart.the-variants as P
+use Rattle.rules.specs.Changes.{mapIf}
+use Rattle.merge.specs.declared.source.Source.{Source}
+
+-- a row of a source: a name, and whether it is given, with its start and inode
+abbrev pub Decided : Type 0
+Decided = Text × Option (ℕ × ℕ)
+
+-- what stands under a name: "removed"; "entries (name, inode)"; "attributes (name, value)"; "0 removed or 1 and value"; "inode 0"
+abbrev pub choice : (u : Under) → UnderName u → Option ℕ
+choice U.Nothing v = none
+choice U.Inode v = some v
+choice U.Value v = some 0
+choice U.Change v = mapIf (λ t. 0) v
+
+abbrev pub decided : (u : Under) → ℕ × UnderName u → Option (ℕ × ℕ)
+decided u x = mapIf (λ i. (x .0, i)) (choice u (x .1))
+
+abbrev pub chosen : Bool → ℕ → Option ℕ
+chosen true i = some i
+chosen false i = none
+
+abbrev pub chosenRead : Under → List ℕ → Parsed (Option ℕ)
+chosenRead u s = bind (under u .read s) (λ v r. got (choice u v) r)
+
+abbrev pub isSet : OptionPart → Bool
+isSet (P.Some p) = true
+isSet P.None = false
+
+abbrev pub rowsIf : {A B : Type 0} → Parsed A → (A → List B) → List B
+rowsIf (fault f) g = []
+rowsIf (got a r) g = g a
+
+-- The n rows from p on, each with the start of its name; where there are none, none. A row is the length of its name, the name, and what
+-- stands under it.
+unfoldable pub rowsFrom : List ℕ → Under → ℕ → ℕ → List Decided
+rowsFrom img u zero p = []
+rowsFrom img u (suc n) p =
+    rowsIf ((name then under u) .read (drop p img)) (λ e.
+    (e .0, decided u (p + length (numberBytes (length (e .0))), e .1)) ∷ rowsFrom img u n (p + length (name .write (e .0) ++ under u .write (e .1))))
+
+-- the list at p, its count first
+abbrev pub listRows : List ℕ → Under → ℕ → List Decided
+listRows img u p = rowsIf (number-read lastCount (drop p img)) (λ n. rowsFrom img u n (p + length (numberBytes n)))
+
+-- the rows of a source: the one that it is at, and those that follow
+abbrev pub rowAt : List ℕ → Source → Decided
+rowAt img s = (part img (s .start) (s .length), mapIf (λ i. (s .start, i)) (chosen (s .given) (s .inode)))
+
+abbrev pub rowsLeft : List ℕ → Source → ℕ → List Decided
+rowsLeft img s zero = []
+rowsLeft img s (suc n) = rowAt img s ∷ rowsFrom img (s .what) n (s .next)
+
+abbrev pub sourceRows : List ℕ → Source → List Decided
+sourceRows img s = rowsLeft img s (s .left)
+
+-- ---- what the readers of a source promise
+
+pub record Chooses (img : List ℕ) (u : Under) (at : Cursor) (given : Bool) (inode : ℕ) (next : Cursor) : Type 0 where
+  pub reads : Reads img (chosenRead u) at (chosen given inode) next
+
+pub record Ended (s : Source) : Type 0 where
+  pub none-left : s .left ≡ 0
+  pub no-name : s .start + s .length ≡ 0
+
+-- the name is in the image
+pub record Inside (img : List ℕ) (s : Source) : Type 0 where
+  pub ends : s .start + s .length ≤ length img
+
+pub record RowsOf (img : List ℕ) (u : Under) (n p : ℕ) (s : Source) : Type 0 where
+  pub are : sourceRows img s ≡ rowsFrom img u n p
+  pub inside : Inside img s
+
+pub record ListOf (img : List ℕ) (u : Under) (p : ℕ) (s : Source) : Type 0 where
+  pub are : sourceRows img s ≡ listRows img u p
+  pub inside : Inside img s

@@ -1,0 +1,166 @@
+// The merge of sources: the least name goes first, as the topmost source that has it says, and then the rest.
+ghost use Prim.Native.Nat.{_<_};
+ghost use lib.ListN.{length};
+ghost use mathlib.Core.Path.{_≡_};
+ghost use Rattle.merge.specs.Merges.{Whole, NoSources, withSource, Upper, Least, Passed, PassedAll, Ready, mergeRows, Settles, countOf};
+use crate::source::Source;
+use crate::source::no_source;
+use crate::source::source_from;
+use wire::order::Ordering;
+use wire::order::compare_part;
+use wire::part::part;
+
+// The sources of a listing, `count` of them, the topmost first: at most two lists of each record, and one of the base.
+pub struct Sources {
+    pub rows: [Source; 35],
+    pub count: usize,
+}
+
+// The first name that is given, with its start and inode, and the sources past it; or that no more is given.
+pub struct Merge {
+    pub all: Sources,
+    pub more: bool,
+    pub start: usize,
+    pub length: usize,
+    pub inode: u64,
+}
+
+// How many rows there are, or that there is no room for them.
+pub enum Counted {
+    Rows(usize),
+    TooMany,
+}
+
+pub fn no_sources() -> Sources
+    ensures { λ r. ⌜ NoSources r ⌝ }
+{
+    let none = no_source();
+    let rows = [none; 35];
+    Sources { rows, count: 0 }
+}
+
+// One source more, beneath the others.
+pub fn push_source(all: Sources, source: Source) -> Sources
+    requires { ⌜ (all .count < 35) × (length (all .rows) ≡ 35) ⌝ }
+    ensures { λ r. ⌜ r ≡ withSource all source ⌝ }
+{
+    let at = all.count;
+    let mut out = all;
+    out.rows[at] = source;
+    out.count = at + 1;
+    out
+}
+
+// Of two sources the one whose name is less; of equal names the upper.
+fn upper(img: &[u8], over: Source, under: Source) -> Source
+    ensures { λ r. ⌜ Upper (now (img .entry)) over under r ⌝ }
+{
+    if over.left == 0 {
+        return under;
+    }
+    if under.left == 0 {
+        return over;
+    }
+    match compare_part(
+        img,
+        over.start,
+        over.length,
+        part(img, under.start, under.length),
+    ) {
+        Ordering::Less => over,
+        Ordering::Equal => over,
+        Ordering::Greater => under,
+    }
+}
+
+// The topmost of the sources that have the least name.
+fn least(img: &[u8], all: Sources) -> Source
+    requires { ⌜ Whole (now img) all ⌝ }
+    ensures { λ r. ⌜ Least (now (img .entry)) all r ⌝ }
+{
+    let mut i = all.count;
+    let mut best = no_source();
+    while 0 < i {
+        i -= 1;
+        best = upper(img, all.rows[i], best);
+    }
+    best
+}
+
+// The source past the name, if it is at it.
+fn passed(img: &[u8], source: Source, start: usize, length: usize) -> Source
+    ensures { λ r. ⌜ Passed (now (img .entry)) source start length r ⌝ }
+{
+    if source.left == 0 {
+        return source;
+    }
+    let what = source.what;
+    match compare_part(img, start, length, part(img, source.start, source.length)) {
+        Ordering::Less => source,
+        Ordering::Equal => source_from(img, source.next, source.left - 1, what),
+        Ordering::Greater => source,
+    }
+}
+
+// Moves each source past the name, if it is at it.
+fn pass_all(img: &[u8], all: Sources, start: usize, length: usize) -> Sources
+    requires { ⌜ Whole (now img) all ⌝ }
+    ensures { λ r. ⌜ PassedAll (now (img .entry)) all start length r ⌝ }
+{
+    let mut out = all;
+    let mut i: usize = 0;
+    while i < all.count {
+        let source = out.rows[i];
+        out.rows[i] = passed(img, source, start, length);
+        i += 1;
+    }
+    out
+}
+
+// Passes names up to the first that is given.
+pub fn settle(img: &[u8], all: Sources) -> Merge
+    requires { ⌜ Ready (now img) all ⌝ }
+    ensures { λ r. ⌜ Settles (now (img .entry)) all r ⌝ }
+{
+    let mut rest = all;
+    loop {
+        let best = least(img, rest);
+        if best.left == 0 {
+            return Merge {
+                all: rest,
+                more: false,
+                start: 0,
+                length: 0,
+                inode: 0,
+            };
+        }
+        rest = pass_all(img, rest, best.start, best.length);
+        if best.given {
+            return Merge {
+                all: rest,
+                more: true,
+                start: best.start,
+                length: best.length,
+                inode: best.inode,
+            };
+        }
+    }
+}
+
+// Counts the rows, up to `room`.
+pub fn count_rows(img: &[u8], merge: Merge, room: usize) -> Counted
+    requires { ⌜ Ready (now img) (merge .all) ⌝ }
+    ensures { λ r. ⌜ r ≡ countOf (length (mergeRows (now (img .entry)) merge)) room ⌝ }
+{
+    let mut rest = merge;
+    let mut count: usize = 0;
+    while rest.more {
+        if room <= count {
+            return Counted::TooMany;
+        }
+        count += 1;
+        let all = rest.all;
+        rest = settle(img, all);
+    }
+    Counted::Rows(count)
+}
