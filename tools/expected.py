@@ -1,7 +1,7 @@
 #!/usr/bin/env python3
 """What crates/vectors must write for a list of vectors (standard input), by a reading of document 01 that shares nothing with the port.
 
-    python3 tools/expected.py < crates/vectors/stdin > crates/vectors/stdout
+    python3 tools/vectors.py | python3 tools/expected.py
 """
 import sys
 

@@ -3,6 +3,7 @@ use crate::line::bytes;
 use crate::line::decimal;
 use crate::line::same;
 use crate::line::word;
+use crate::reads;
 use crate::show;
 use image::batch::InodeLayerStack;
 use image::inode::Place;
@@ -37,6 +38,7 @@ pub fn answer(line: &[u8]) {
     if same(call, b"image") {
         image(line);
     }
+    reads::answer(line);
     show::text(b"\n");
 }
 

@@ -47,10 +47,11 @@ pub fn decimal(word: &[u8]) -> u64 {
     let mut value: u64 = 0;
     let mut i = 0;
     while i < word.len() {
-        if value > 1844674407370955160 {
+        let last = digit(word[i]) % 10;
+        if value > (0xFFFF_FFFF_FFFF_FFFF - last) / 10 {
             return 0xFFFF_FFFF_FFFF_FFFF;
         }
-        value = value * 10 + digit(word[i]) % 10;
+        value = value * 10 + last;
         i += 1;
     }
     value

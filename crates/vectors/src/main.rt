@@ -6,8 +6,22 @@
 //     time BYTES                   the seconds and nanoseconds, the bytes it took, and how it is written
 //     compare BYTES START LENGTH NAME     a part of the bytes against a name
 //     image INODE BYTES            the place of the inode's node, '-' for none, and of its records, front batch first; or the refusal
+//
+// The reads, whose answers are the published Rust's (rust/oracle). Each may answer 'none', or 'refused' and a number.
+//
+//     exists INODE BYTES           yes, or no
+//     type INODE BYTES             the letter of the type
+//     child INODE NAME BYTES       the inode
+//     attr INODE BYTES             type, permission in octal, links, owner, group, device, size, times as SECONDS.NANOS
+//     list INODE ROWS BYTES        how many entries, and each as NAME:INODE
+//     link INODE BYTES             the target
+//     parent INODE BYTES           the inode
+//     xattr INODE NAME BYTES       the value
+//     names INODE ROWS BYTES       how many names of extended attributes, and each
 mod answer;
+mod lend;
 mod line;
+mod reads;
 mod show;
 
 use answer::answer;
@@ -15,7 +29,7 @@ use libc::STDIN_FILENO;
 use line::find;
 
 fn main() {
-    let mut input = [0u8; 65536];
+    let mut input = [0u8; 262144];
     let length = io::read_full(STDIN_FILENO, &mut input);
     replay(&input[..length]);
 }

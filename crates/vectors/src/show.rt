@@ -1,6 +1,8 @@
 // Writing answers to standard output.
+use attrs::node::FileType;
 use libc::STDOUT_FILENO;
 use wire::cursor::Fault;
+use wire::time::Time;
 
 pub fn text(words: &[u8]) {
     io::write_all(STDOUT_FILENO, words);
@@ -49,4 +51,57 @@ pub fn written(length: usize, bytes: &[u8]) {
     number(length as u64);
     text(b" bytes, written ");
     hex(bytes);
+}
+
+pub fn refused(number: u32) {
+    text(b" = refused ");
+    io::print_decimal(STDOUT_FILENO, number as u64);
+}
+
+// A number behind others.
+pub fn next(value: u64) {
+    text(b" ");
+    number(value);
+}
+
+// A time behind others.
+pub fn time(moment: Time) {
+    text(b" ");
+    signed(moment.seconds);
+    text(b".");
+    number(moment.nanos as u64);
+}
+
+// Bytes as a word of the list has them.
+pub fn word(bytes: &[u8]) {
+    if bytes.len() == 0 {
+        text(b"-");
+    } else {
+        hex(bytes);
+    }
+}
+
+pub fn octal(value: u32) {
+    if value == 0 {
+        nibble(0);
+    }
+    let mut place: u32 = 0o10000000000;
+    while 0 < place {
+        if place <= value {
+            nibble((value / place % 8) as u8);
+        }
+        place = place / 8;
+    }
+}
+
+pub fn letter(kind: FileType) {
+    match kind {
+        FileType::Directory => text(b"d"),
+        FileType::RegularFile => text(b"-"),
+        FileType::Symlink => text(b"l"),
+        FileType::NamedPipe => text(b"p"),
+        FileType::CharDevice => text(b"c"),
+        FileType::BlockDevice => text(b"b"),
+        FileType::Socket => text(b"s"),
+    }
 }

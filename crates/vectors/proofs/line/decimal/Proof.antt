@@ -13,17 +13,20 @@ abbrev μ-loop : tie.MeasureT-loop
 loop-holds : tie.Need-loop-holds Inv-loop μ-loop
 loop-holds c = search needs
 
-returns : tie.Need-returns Inv-loop μ-loop
-returns c = search needs
-
-mul-value : tie.Need-mul-value Inv-loop μ-loop
-mul-value c = search needs
-
 shared-slice-read-digit : tie.Need-shared-slice-read-digit Inv-loop μ-loop
 shared-slice-read-digit c = search needs
 
 digit-requires : tie.Need-digit-requires Inv-loop μ-loop
 digit-requires c κs = search needs
+
+sub-if1 : tie.Need-sub-if1 Inv-loop μ-loop
+sub-if1 c = search needs
+
+returns : tie.Need-returns Inv-loop μ-loop
+returns c = search needs
+
+mul-value : tie.Need-mul-value Inv-loop μ-loop
+mul-value c = search needs
 
 add-value : tie.Need-add-value Inv-loop μ-loop
 add-value c = search needs
@@ -47,10 +50,11 @@ decimal-spec =
     Inv-loop
     μ-loop
     loop-holds
-    returns
-    mul-value
     shared-slice-read-digit
     digit-requires
+    sub-if1
+    returns
+    mul-value
     add-value
     add-i
     loop-less

@@ -1,0 +1,11 @@
+#!/bin/sh
+# Builds the oracle, makes reads.in and reads.out again, and runs the tests.
+# $1, or APPENDFS_SRC: the folder that holds the published sources, src/node.rs and the rest.
+# Needs cargo and rustc (1.90 or later) and sha256sum; no registry, no network.
+set -eu
+source=${1:-${APPENDFS_SRC:?the folder that holds src/node.rs}}
+APPENDFS_SRC=$(cd "$source" && pwd)
+export APPENDFS_SRC
+cd "$(dirname "$0")"
+cargo run --offline --release --bin reads -- .
+cargo test --offline --release

@@ -1,0 +1,84 @@
+//! The reads as lines of text, and their answers, as crates/vectors reads and writes them.
+//!
+//! Words have one blank between them. Texts and images are hexadecimal, `-` where empty.
+//!
+//! ```text
+//! exists INODE IMAGE          yes, no
+//! type INODE IMAGE            d, -, l, p, c, b or s; none
+//! child INODE NAME IMAGE      inode N; none
+//! attr INODE IMAGE            TYPE PERM LINKS UID GID RDEV SIZE ATIME MTIME CTIME; none
+//! list INODE ROWS IMAGE       COUNT NAME:INODE NAME:INODE ..; none
+//! link INODE IMAGE            text HEX; none
+//! parent INODE IMAGE          inode N; none
+//! xattr INODE NAME IMAGE      text HEX; none
+//! names INODE ROWS IMAGE      COUNT NAME NAME ..; none
+//! ```
+//!
+//! PERM is octal, a time is SECONDS.NANOS, both without padding; all else is decimal. Each call may be
+//! `refused N` as well.
+
+use crate::calls::{Answer, Call, run};
+use crate::image::Time;
+use crate::store::Attr;
+use std::fmt::Write;
+
+pub fn hex(bytes: &[u8]) -> String {
+    if bytes.is_empty() {
+        return "-".to_string();
+    }
+    bytes.iter().fold(String::new(), |mut s, b| {
+        write!(s, "{b:02X}").unwrap();
+        s
+    })
+}
+
+/// The line of a read; `None` for a change.
+pub fn line(call: &Call, image: &[u8]) -> Option<String> {
+    let words = match call {
+        Call::Exists { inode } => format!("exists {inode}"),
+        Call::Type { inode } => format!("type {inode}"),
+        Call::Child { inode, name } => format!("child {inode} {}", hex(name)),
+        Call::Attr { inode } => format!("attr {inode}"),
+        Call::List { inode, rows } => format!("list {inode} {rows}"),
+        Call::Link { inode } => format!("link {inode}"),
+        Call::Parent { inode } => format!("parent {inode}"),
+        Call::Xattr { inode, name } => format!("xattr {inode} {}", hex(name)),
+        Call::Names { inode, rows } => format!("names {inode} {rows}"),
+        _ => return None,
+    };
+    Some(format!("{words} {}", hex(image)))
+}
+
+/// The answer of a read; `None` for one that no line has.
+pub fn answer(call: &Call, image: &[u8]) -> Option<String> {
+    Some(match run(image, call, 0) {
+        Answer::Refused(number) => format!("refused {number}"),
+        Answer::None => "none".to_string(),
+        Answer::Truth(true) => "yes".to_string(),
+        Answer::Truth(false) => "no".to_string(),
+        Answer::Type(kind) => letter(kind).to_string(),
+        Answer::Inode(inode) => format!("inode {inode}"),
+        Answer::Attr(attr) => attributes(&attr),
+        Answer::Text(text) => format!("text {}", hex(&text)),
+        Answer::Entries(rows) => rows.iter().fold(rows.len().to_string(), |mut s, (name, inode)| {
+            write!(s, " {}:{inode}", hex(name)).unwrap();
+            s
+        }),
+        Answer::Names(names) => names.iter().fold(names.len().to_string(), |mut s, name| {
+            write!(s, " {}", hex(name)).unwrap();
+            s
+        }),
+        Answer::Outside | Answer::Image(_) => return None,
+    })
+}
+
+fn letter(kind: u8) -> char {
+    ['d', '-', 'l', 'p', 'c', 'b', 's'][kind as usize]
+}
+
+fn attributes(a: &Attr) -> String {
+    let time = |t: Time| format!("{}.{}", t.seconds, t.nanos);
+    let numbers =
+        format!("{} {:o} {} {} {} {} {}", letter(a.kind), a.perm, a.links, a.owner, a.group, a.device, a.size);
+    format!("{numbers} {} {} {}", time(a.atime), time(a.mtime), time(a.ctime))
+}
