@@ -1,0 +1,83 @@
+// Changes of one inode's live record.
+ghost use Prim.Native.Nat.{_≤_};
+ghost use mathlib.Core.Path.{_≡_};
+ghost use lib.ListN.{length};
+ghost use Rattle.wire.specs.Lists.{lastCount};
+ghost use Rattle.rules.specs.Initial.{usual};
+ghost use Rattle.rules.specs.Refusals.{noDelta};
+ghost use Rattle.rules.specs.ChangeCalls.{givenRecord, insertNewNode, tombstone as tombstoned};
+ghost use Rattle.overlay.specs.Changed.{Changes};
+ghost use Rattle.overlay.specs.Cuts.{livedOf};
+use crate::answer::ChangeAnswer;
+use crate::answer::write_image;
+use crate::cut::Cut;
+use crate::cut::count_with;
+use crate::cut::cut_records;
+use crate::section::open_sections;
+use crate::write::Lived;
+use crate::write::NewImage;
+use nodes::delta::EntryDelta;
+use nodes::delta::read_entry_delta;
+use wire::cursor::Cursor;
+
+// Replaces the live record by the delta given, a record from its code on.
+pub fn insert_new_node(img: &[u8], ino: u64, delta: &[u8], target: &mut [u8]) -> ChangeAnswer
+    ensures { λ r. ⌜ Changes (insertNewNode usual (now (img .entry)) ino (now (delta .entry)) (length (now (target .entry)))) (now (target .entry)) r (now (target .exit)) ⌝ }
+{
+    let opened = open_sections(img);
+    if opened.refusal != 0 {
+        return ChangeAnswer::Refused(opened.refusal);
+    }
+    if no_delta(delta) {
+        return ChangeAnswer::Refused(4);
+    }
+    let sections = opened.sections;
+    let cut = cut_records(img, sections.live, ino);
+    let new = NewImage::Lived(lived(cut, ino));
+    write_image(img, delta, sections, new, target)
+}
+
+// Replaces the live record by a tombstone.
+pub fn tombstone(img: &[u8], ino: u64, target: &mut [u8]) -> ChangeAnswer
+    ensures { λ r. ⌜ Changes (tombstoned usual (now (img .entry)) ino (length (now (target .entry)))) (now (target .entry)) r (now (target .exit)) ⌝ }
+{
+    let opened = open_sections(img);
+    if opened.refusal != 0 {
+        return ChangeAnswer::Refused(opened.refusal);
+    }
+    let sections = opened.sections;
+    let cut = cut_records(img, sections.live, ino);
+    let new = NewImage::Lived(lived(cut, ino));
+    let code = [0u8; 1];
+    write_image(img, &code, sections, new, target)
+}
+
+// Whether these are not the bytes of one delta, and no more.
+fn no_delta(given: &[u8]) -> bool
+    ensures { λ r. ⌜ r ≡ noDelta (givenRecord (now (given .entry))) ⌝ }
+{
+    let read = read_entry_delta(given, Cursor::At(0));
+    let next = read.next;
+    let delta = read.delta;
+    let Cursor::At(end) = next else {
+        return true;
+    };
+    match delta {
+        EntryDelta::Node(_) => end != given.len(),
+        EntryDelta::Tombstone => true,
+    }
+}
+
+// The records of live, with one of the inode's.
+pub fn lived(cut: Cut, ino: u64) -> Lived
+    requires { ⌜ cut .count ≤ lastCount ⌝ }
+    ensures { λ r. ⌜ r ≡ livedOf cut ino ⌝ }
+{
+    Lived {
+        inode: ino,
+        count: count_with(cut),
+        first: cut.first,
+        row: cut.row,
+        after: cut.after,
+    }
+}
