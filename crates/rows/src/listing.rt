@@ -150,7 +150,7 @@ fn is_tombstone(entry: EntryDelta) -> bool
 }
 
 // The sources of a stack.
-pub fn gather_sources(img: &[u8], stack: InodeLayerStack, listing: Listing) -> Sources
+fn gather_sources(img: &[u8], stack: InodeLayerStack, listing: Listing) -> Sources
     requires { ⌜ Stacked (now img) stack ⌝ }
     ensures { λ r. ⌜ Gathers (now (img .entry)) stack listing r ⌝ }
 {
