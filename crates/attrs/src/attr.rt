@@ -39,7 +39,7 @@ const INITIAL: [[u32; 2]; 7] = [
 ];
 
 // The row of a type in the table.
-fn type_row(file_type: FileType) -> usize
+pub fn type_row(file_type: FileType) -> usize
     ensures { λ r. ⌜ (r ≡ kindNumber (kindMeant «file_type»)) × (r < 7) ⌝ }
 {
     match file_type {
@@ -53,14 +53,14 @@ fn type_row(file_type: FileType) -> usize
     }
 }
 
-fn initial_perm(file_type: FileType) -> u32
+pub fn initial_perm(file_type: FileType) -> u32
     ensures { λ r. ⌜ r ≡ usual (kindMeant «file_type») .perm ⌝ }
 {
     let row = type_row(file_type);
     INITIAL[row][0]
 }
 
-fn initial_nlink(file_type: FileType) -> u32
+pub fn initial_nlink(file_type: FileType) -> u32
     ensures { λ r. ⌜ r ≡ usual (kindMeant «file_type») .links ⌝ }
 {
     let row = type_row(file_type);
@@ -78,7 +78,7 @@ fn delta_rdev(delta: NodeDelta) -> u32
     }
 }
 
-fn epoch() -> Time
+pub fn epoch() -> Time
     ensures { λ r. ⌜ r ≡ epochTime ⌝ }
 {
     Time {
@@ -107,7 +107,7 @@ pub fn initial_attr(delta: NodeDelta, ino: u64) -> FileAttr
     }
 }
 
-fn u32_or(option: OptionU32, old: u32) -> u32
+pub fn u32_or(option: OptionU32, old: u32) -> u32
     ensures { λ r. ⌜ r ≡ given (wordOf option) old ⌝ }
 {
     match option {
@@ -117,7 +117,7 @@ fn u32_or(option: OptionU32, old: u32) -> u32
 }
 
 // Of a mode only the low twelve bits count.
-fn mode_or(option: OptionU32, old: u32) -> u32
+pub fn mode_or(option: OptionU32, old: u32) -> u32
     ensures { λ r. ⌜ r ≡ given (cut (wordOf option)) old ⌝ }
 {
     match option {
@@ -126,7 +126,7 @@ fn mode_or(option: OptionU32, old: u32) -> u32
     }
 }
 
-fn time_or(option: OptionTime, old: Time) -> Time
+pub fn time_or(option: OptionTime, old: Time) -> Time
     ensures { λ r. ⌜ r ≡ given (timeOf option) old ⌝ }
 {
     match option {

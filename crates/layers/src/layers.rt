@@ -112,7 +112,7 @@ pub fn has_link(img: &[u8], ino: u64) -> YesNo
 }
 
 // The topmost record decides; with none, the base.
-fn type_in(img: &[u8], stack: InodeLayerStack) -> OptionType
+pub fn type_in(img: &[u8], stack: InodeLayerStack) -> OptionType
     requires { ⌜ Stacked (now img) stack ⌝ }
     ensures { λ r. ⌜ typeOf r ≡ shown type (now (img .entry)) stack ⌝ }
 {

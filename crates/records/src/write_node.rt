@@ -110,7 +110,7 @@ pub fn put_node(buf: &mut [u8], at: usize, img: &[u8], node: Node) -> usize
     put_body(buf, body, img, kind)
 }
 
-fn kind_number(kind: NodeKind) -> u64
+pub fn kind_number(kind: NodeKind) -> u64
     ensures { λ r. ⌜ ((img : List ℕ) → r ≡ kindNumber (kindOf (bodyMeant img kind))) ⌝ }
 {
     match kind {
@@ -125,7 +125,7 @@ fn kind_number(kind: NodeKind) -> u64
 }
 
 // Writes what a node has by its kind.
-fn put_body(buf: &mut [u8], at: usize, img: &[u8], kind: NodeKind) -> usize
+pub fn put_body(buf: &mut [u8], at: usize, img: &[u8], kind: NodeKind) -> usize
     ensures { λ r. ⌜ Put (now (buf .entry)) at (bodyBytes (now (img .entry)) kind) r (now (buf .exit)) ⌝ }
 {
     match kind {
