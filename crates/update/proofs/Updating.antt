@@ -1,0 +1,371 @@
+-- Update of one inode's attributes.
+-- Assumes nothing.
+use mathlib.Core.Path.{_≡_, refl, sym, ap, subst, _∙_}
+use mathlib.Core.Bool.{Bool, true, false, not}
+use mathlib.Core.List.{List, [], _∷_, _++_, append-assoc}
+use mathlib.Core.Option.{Option, none, some}
+use Prim.Native.Nat.{ℕ, suc, _+_, _≤_, _<_}
+use native.Mathlib.Omega.{arith}
+use lib.ListN.{length, drop, length-drop, drop-of-length-le}
+use lib.Dec.{eqb}
+use borrow.Author.Tests.{eqb-true, eqb-false}
+use Rattle.wire.specs.declared.cursor.Cursor.{Cursor}
+use Rattle.wire.specs.declared.cursor.Cursor.the-variants.{At, Stop}
+use Rattle.wire.specs.Orders.{byNumber}
+use Rattle.wire.specs.declared.order.Ordering.{Ordering}
+use Rattle.wire.specs.declared.order.Ordering.the-variants.{Less, Equal, Greater}
+use Rattle.wire.specs.Order.{Order}
+use Rattle.wire.specs.Maps.{Map, empty, get, put, get-put, map-ext}
+use Rattle.wire.specs.Rows.{choose}
+use Rattle.wire.specs.Parse.{got}
+use Rattle.wire.specs.Codec.{Codec, whole, decode}
+use Rattle.wire.specs.Combinators.{count, opt-write}
+use Rattle.wire.specs.Number.{numberBytes, groups, number-read, numberTo}
+use Rattle.wire.specs.Reading.{Reads, Answers, placeAt}
+use Rattle.image.specs.declared.name.Under.the-variants as U
+use Rattle.image.specs.declared.inode.Place.the-variants as A
+use Rattle.image.specs.declared.batch.InodeLayerStack.{InodeLayerStack}
+use Rattle.image.specs.Meaning.{Kind, Changes as AttrChanges, Fields, Change, Delta, Record, Layer, Batch, Store, directory, file, symlink, special, pipe, character, block, socket, tombstone, delta, kindNumber, changedKind}
+use Rattle.image.specs.Fits.{FitsRecord}
+use Rattle.image.specs.KindLayout.{code, kind-small}
+use Rattle.image.specs.FieldLayout.{inode}
+use Rattle.image.specs.RecordLayout.{changes, fields, changePart, changePartOf, layerRecord}
+use Rattle.image.specs.Places.{Holds}
+use Rattle.image.specs.RoundTrip.{readImage, writeImage, read-then-write}
+use Rattle.nodes.specs.Options.{wordOf, timeOf}
+use Rattle.nodes.specs.Listed.{listOf, ListedIf}
+use Rattle.nodes.specs.Attrs.{fieldsMeant, ReadsAttr}
+use Rattle.nodes.specs.declared.attr.AttrDelta.{AttrDelta}
+use Rattle.nodes.specs.declared.option.OptionU32.{OptionU32}
+use Rattle.nodes.specs.declared.option.OptionU32.the-variants as W
+use Rattle.nodes.specs.declared.option.OptionTime.{OptionTime}
+use Rattle.nodes.specs.declared.option.OptionTime.the-variants as T
+use Rattle.nodes.specs.declared.option.OptionPart.{OptionPart}
+use Rattle.nodes.specs.declared.option.OptionPart.the-variants as P
+use Rattle.attrs.specs.Meant.{kindMeant}
+use Rattle.attrs.specs.declared.node.FileType.{FileType}
+use Rattle.records.specs.Writes.{partBit, attrBytes, fieldsWith, fields-with-bytes, fields-bytes}
+use Rattle.records.proofs.Writing.{list-written}
+use Rattle.layers.specs.Stacks.{StackOf, shown}
+use Rattle.layers.specs.Answered.{typeOf}
+use Rattle.layers.specs.declared.file_type.OptionType.{OptionType}
+use Rattle.layers.specs.declared.file_type.OptionType.the-variants as M
+use Rattle.rules.specs.Initial.{usual}
+use Rattle.rules.specs.Calls.{Call}
+use Rattle.rules.specs.Reads.{orElse, type}
+use Rattle.rules.specs.Stacks.{over?, stackOn, batchLayers, withLive}
+use Rattle.rules.specs.Changes.{mapIf, mergeFields, mergeChanges, bareChange, bareDelta, updated}
+use Rattle.rules.specs.Queue.{setLive, onLive, typeBelow}
+use Rattle.rules.specs.Outcomes.{result}
+use Rattle.rules.specs.ChangeCalls.{ifRead, givenFields, updateAttrDelta}
+use Rattle.rules.proofs.PlacedStack.{placed-stack, placed-node}
+use Rattle.change.specs.Changed.{Changes, ifFits}
+use Rattle.change.specs.Sections.{between, Spans, Stands}
+use Rattle.change.specs.Cuts.{rowHere, underFirst, StandsAt, CutsRecords}
+use Rattle.update.specs.Merged.{orWord, orTime, orPart, attrOver, changesAnew}
+use Rattle.overlay.specs.NewImages.{livedOf, relived}
+use Rattle.update.specs.Anew.{bareBytes, deltaAnew, newBytes}
+use Rattle.update.specs.Updates.{leftOver, newDelta, mergedDelta, Onto, Updates}
+use Rattle.change.specs.declared.answer.ChangeAnswer.{ChangeAnswer}
+use Rattle.change.specs.declared.answer.ChangeAnswer.the-variants as R
+use Rattle.change.specs.declared.section.Sections.{Sections}
+use Rattle.change.specs.declared.cut.Cut.{Cut}
+use Rattle.overlay.specs.declared.write.Lived.{Lived}
+use Rattle.update.specs.declared.write.NewImage.{NewImage}
+use Rattle.update.specs.declared.write.NewImage.the-variants as N
+use Rattle.update.specs.declared.fields.NewChange.the-variants as C
+use Rattle.update.specs.declared.fields.Updated.{Updated}
+use Rattle.change.proofs.Sections.{span-part, span-front, span-back, span-reads}
+use Rattle.change.proofs.Finishing.{changes-refused, changes-made}
+use Rattle.overlay.proofs.Living.{is-cut, lived-bytes}
+use Rattle.overlay.proofs.Entries.{get-here}
+use Rattle.update.proofs.Merging.{changes-written}
+
+-- ---- "field by field"
+
+word-or : (a b : OptionU32) → wordOf (orWord a b) ≡ orElse (wordOf a) (wordOf b)
+word-or (W.Some n) b = refl
+word-or W.None b = refl
+
+time-or : (a b : OptionTime) → timeOf (orTime a b) ≡ orElse (timeOf a) (timeOf b)
+time-or (T.Some t) b = refl
+time-or T.None b = refl
+
+part-or : (img given : List ℕ) (a b : OptionPart) → count (mergeChanges (listOf given U.Change a) (listOf img U.Change b)) ≡ partBit (orPart a b)
+part-or img given (P.Some p) (P.Some q) = refl
+part-or img given (P.Some p) P.None = refl
+part-or img given P.None (P.Some q) = refl
+part-or img given P.None P.None = refl
+
+module _ (img given : List ℕ) (a b : AttrDelta) where
+  abbrev bothChanges : Option AttrChanges
+  bothChanges = mergeChanges (listOf given U.Change (a .xattrs)) (listOf img U.Change (b .xattrs))
+
+  fields-over : fieldsWith (attrOver a b) bothChanges ≡ mergeFields (fieldsMeant given a) (fieldsMeant img b)
+  fields-over = λ j. record {
+    mode = word-or (a .mode) (b .mode) j;
+    owner = word-or (a .uid) (b .uid) j;
+    group = word-or (a .gid) (b .gid) j;
+    links = word-or (a .nlink) (b .nlink) j;
+    atime = time-or (a .atime) (b .atime) j;
+    mtime = time-or (a .mtime) (b .mtime) j;
+    ctime = time-or (a .ctime) (b .ctime) j;
+    created = time-or (a .«created_at») (b .«created_at») j;
+    attributes = bothChanges;
+  }
+
+  fields-over-bytes : (x y : ℕ) → ListedIf given U.Change (a .xattrs) x → ListedIf img U.Change (b .xattrs) y
+      → attrBytes (attrOver a b) ++ changesAnew img given (a .xattrs) (b .xattrs) ≡ fields .write (mergeFields (fieldsMeant given a) (fieldsMeant img b))
+  fields-over-bytes x y h k =
+      ap (λ (t : List ℕ). attrBytes (attrOver a b) ++ t) (changes-written img given (a .xattrs) (b .xattrs) x y h k)
+      ∙ sym (fields-with-bytes (attrOver a b) bothChanges (part-or img given (a .xattrs) (b .xattrs)))
+      ∙ ap (fields .write) fields-over
+
+-- ---- the live record
+
+regroup : (a b c d : List ℕ) → a ++ (b ++ (c ++ d)) ≡ a ++ ((b ++ c) ++ d)
+regroup a b c d = simp append-assoc
+
+-- what a delta writes after its fields
+abbrev changed : Change → List ℕ
+changed c = changePart (changedKind c) .write (changePartOf c)
+
+delta-bytes : (f : Fields) (c : Change) → layerRecord .write (delta (record { fields = f; change = c })) ≡ numberBytes (suc (kindNumber (changedKind c))) ++ (fields .write f ++ changed c)
+unfolding layerRecord code
+delta-bytes f c = refl
+
+dead-bytes : layerRecord .write tombstone ≡ numberBytes 0 ++ []
+unfolding layerRecord code
+dead-bytes = refl
+
+abbrev codeOf : Delta → ℕ
+codeOf d = suc (kindNumber (changedKind (d .change)))
+
+module _ {img : List ℕ} {at v : ℕ} (start : Cursor) (n : Answers img (number-read 7) (At at) 0 v start) where
+  module _ (after : ℕ) (d : Delta) (w : Spans img at (layerRecord .write (delta d)) after) where
+    delta-span : Spans img at (numberBytes (codeOf d) ++ (fields .write (d .fields) ++ changed (d .change))) after
+    delta-span = subst (λ (t : List ℕ). Spans img at t after) (delta-bytes (d .fields) (d .change)) w
+
+    code-read : (v ≡ codeOf d) × (start ≡ At (at + length (numberBytes (codeOf d))))
+    code-read =
+        span-reads (numberTo 7 refl) (span-front (numberBytes (codeOf d)) (fields .write (d .fields) ++ changed (d .change)) delta-span)
+        (omega (arith, kind-small (changedKind (d .change)))) start (n .reads)
+
+    after-code : Spans img (at + length (numberBytes (codeOf d))) (fields .write (d .fields) ++ changed (d .change)) after
+    after-code = span-back (numberBytes (codeOf d)) (fields .write (d .fields) ++ changed (d .change)) delta-span
+
+  -- "does nothing on a live tombstone"
+  pub onto-dead : {l : Lived} {a : AttrDelta} → v ≡ 0 → Onto img at l a N.Same
+  onto-dead {l} e = record { stays = λ w. refl; merges = λ d f w. absurd (omega (arith, e, code-read (l .after) d w .0)) }
+
+  module _ {b : AttrDelta} (next : Cursor) (r : ReadsAttr img start b next) where
+    module _ (after : ℕ) (d : Delta) (f : FitsRecord (delta d)) (w : Spans img at (layerRecord .write (delta d)) after) where
+      fields-read : (fieldsMeant img b ≡ d .fields) × (next ≡ At (at + length (numberBytes (codeOf d)) + length (fields .write (d .fields))))
+      unfolding fields
+      fields-read =
+          span-reads fields (span-front (fields .write (d .fields)) (changed (d .change)) (after-code after d w)) (f .fields) next (rw (code-read after d w .1) at (r .reads))
+
+      change-span : between img (placeAt next) after ≡ changed (d .change)
+      change-span = rw (ap placeAt (fields-read .1)) (span-part (span-back (fields .write (d .fields)) (changed (d .change)) (after-code after d w)))
+
+      changes-listed : ListedIf img U.Change (b .xattrs) (at + length (numberBytes (codeOf d)) + length (fields .write (d .fields)))
+      changes-listed = rw (fields-read .1) at (r .listed)
+
+      -- the delta with the fields given over its own
+      merged-bytes : (a : AttrDelta) (given : List ℕ) (end : ℕ) → ListedIf given U.Change (a .xattrs) end
+          → numberBytes v ++ (attrBytes (attrOver a b) ++ (changesAnew img given (a .xattrs) (b .xattrs) ++ between img (placeAt next) after)) ≡ layerRecord .write (mergedDelta given a d)
+      merged-bytes a given end h =
+          let c = code-read after d w .0 in
+          let m = changesAnew img given (a .xattrs) (b .xattrs) in
+          (λ j. numberBytes (c j) ++ (attrBytes (attrOver a b) ++ (m ++ change-span j)))
+          ∙ regroup (numberBytes (codeOf d)) (attrBytes (attrOver a b)) m (changed (d .change))
+          ∙ ap (λ (t : List ℕ). numberBytes (codeOf d) ++ (t ++ changed (d .change)))
+          (fields-over-bytes img given a b end (at + length (numberBytes (codeOf d)) + length (fields .write (d .fields))) h changes-listed
+          ∙ ap (λ (x : Fields). fields .write (mergeFields (fieldsMeant given a) x)) (fields-read .0))
+          ∙ sym (delta-bytes (mergeFields (fieldsMeant given a) (d .fields)) (d .change))
+
+    -- "Update merges into a live delta, field by field and attribute by attribute"
+    pub onto-delta : {l : Lived} {a o : AttrDelta} {place : ℕ} → (v ≡ 0 → ⊥) → o ≡ attrOver a b → place ≡ placeAt next
+        → Onto img at l a (N.Updated (record { lived = l; code = v; «attr_delta» = o; new = a .xattrs; old = b .xattrs; change = C.Kept place }))
+    onto-delta {l} {a} {o} {place} z e q = record {
+      stays = λ w. absurd (z (span-reads (numberTo 7 refl) (span-front (numberBytes 0) [] (subst (λ (t : List ℕ). Spans img at t (l .after)) dead-bytes w)) (omega arith) start (n .reads) .0));
+      merges = λ d f w. record {
+        new = record { lived = l; code = v; «attr_delta» = o; new = a .xattrs; old = b .xattrs; change = C.Kept place };
+        is = refl;
+        lived = refl;
+        writes = λ given end h. rw (e, q) (merged-bytes (l .after) d f w a given end h);
+      };
+    }
+
+-- ---- no live record
+
+only-given : (img given : List ℕ) (x : OptionPart) (end : ℕ) → ListedIf given U.Change x end → changesAnew img given x P.None ≡ opt-write changes (listOf given U.Change x)
+only-given img given (P.Some p) end h = list-written U.Change h
+only-given img given P.None end h = refl
+
+bare-bytes : (k : Kind) → bareBytes (suc (kindNumber k)) ≡ changed (bareChange k)
+unfolding empty numberBytes groups
+bare-bytes directory = refl
+bare-bytes file = refl
+bare-bytes symlink = refl
+bare-bytes (special pipe) = refl
+bare-bytes (special character) = refl
+bare-bytes (special block) = refl
+bare-bytes (special socket) = refl
+
+bare-kind : (k : Kind) → changedKind (bareChange k) ≡ k
+bare-kind directory = refl
+bare-kind file = refl
+bare-kind symlink = refl
+bare-kind (special s) = refl
+
+-- "makes a delta of the type below, device 0"
+new-delta-bytes : (img given : List ℕ) (l : Lived) (k : Kind) (a : AttrDelta) (end : ℕ) → ListedIf given U.Change (a .xattrs) end
+    → deltaAnew img given (newDelta l (suc (kindNumber k)) a) ≡ layerRecord .write (bareDelta (fieldsMeant given a) k)
+new-delta-bytes img given l k a end h =
+    let c = numberBytes (suc (kindNumber k)) in
+    (λ j. c ++ (attrBytes a ++ (only-given img given (a .xattrs) end h j ++ bare-bytes k j)))
+    ∙ regroup c (attrBytes a) (opt-write changes (listOf given U.Change (a .xattrs))) (changed (bareChange k))
+    ∙ sym (λ j. numberBytes (suc (kindNumber (bare-kind k j))) ++ (fields-bytes given a j ++ changed (bareChange k)))
+    ∙ sym (delta-bytes (fieldsMeant given a) (bareChange k))
+
+-- a layer that has no record of the inode shows what is below it
+stack-over : (i : ℕ) (bs : List Batch) (live : Layer) (rs : List Record) → stackOn i (withLive bs live) rs ≡ over? (get byNumber i live) (stackOn i (batchLayers bs) rs)
+unfolding stackOn
+stack-over i [] live rs = refl
+stack-over i (b ∷ bs) live rs = stack-over i bs live (over? (get byNumber i (b .records)) rs)
+
+type-under : {img : List ℕ} {i : ℕ} {stk : InodeLayerStack} {s : Store} → StackOf img i stk → readImage img ≡ got s [] → get byNumber i (s .live) ≡ none → shown type img stk ≡ typeBelow s i
+type-under {img} {i} {stk} {s} w e n =
+    rw (w .records-are, w .node-is, placed-stack img i e, placed-node img i e, stack-over i (s .batches) (s .live) [], n)
+
+-- ---- the new image
+
+-- what stands under a key is put there again
+put-same : {K A : Type 0} (O : Order K) (k : K) (o : Option A) (m : Map O A) → get O k m ≡ o → put O k o m ≡ m
+put-same {K} {A} O k o m e = map-ext O (put O k o m) m (λ j. get-put O j k o m ∙ go j (O .cmp j k) refl)
+  where
+    go : (j : K) (d : Ordering) → O .cmp j k ≡ d → choose d o (get O j m) ≡ get O j m
+    go j Less h = refl
+    go j Equal h = sym e ∙ ap (λ (x : K). get O x m) (sym (O .same j k h))
+    go j Greater h = refl
+
+abbrev liveOf : ℕ → Store → Option Record
+liveOf i s = get byNumber i (s .live)
+
+abbrev newOf : List ℕ → AttrDelta → ℕ → Store → Option Record → Option Record
+newOf given a i s = updated (fieldsMeant given a) (typeBelow s i)
+
+module _ {img : List ℕ} {p : Sections} {s : Store} (w : Stands img p s) (i : ℕ) (a : AttrDelta) (given : List ℕ) where
+  -- nothing is altered
+  same-bytes : (o : Option Record) → liveOf i s ≡ o → newOf given a i s o ≡ o → img ≡ writeImage (onLive i (newOf given a i s) s)
+  same-bytes o e d =
+      sym (read-then-write img s (w .is))
+      ∙ ap (λ (m : Layer). writeImage (setLive m s)) (sym (ap (λ (x : Option Record). put byNumber i x (s .live)) (ap (newOf given a i s) e ∙ d) ∙ put-same byNumber i o (s .live) e))
+
+  module _ {cut : Cut} (c : CutsRecords img (p .live) i cut) where
+    new-bytes : (o : Option Record) (n : Updated) (r : Record) → liveOf i s ≡ o → newOf given a i s o ≡ some r → n .lived ≡ livedOf cut i → deltaAnew img given n ≡ layerRecord .write r
+        → newBytes img given p (N.Updated n) ≡ writeImage (onLive i (newOf given a i s) s)
+    new-bytes o n r e d l b =
+        (λ j. relived img (b j) p (l j)) ∙ lived-bytes w c r ∙ ap (λ (x : Option Record). writeImage (setLive (put byNumber i x (s .live)) s)) (sym (ap (newOf given a i s) e ∙ d))
+
+    module _ (at : ℕ) (l : Lived) (r : NewImage) (q : l ≡ livedOf cut i) (o : Onto img at l a r) (end : ℕ) (g : ListedIf given U.Change (a .xattrs) end) where
+      record-bytes : (y : Record) → liveOf i s ≡ some y → Holds img (layerRecord .read) (some at) (some y) → Spans img at (layerRecord .write y) (cut .after)
+          → newBytes img given p r ≡ writeImage (onLive i (newOf given a i s) s)
+      unfolding layerRecord
+      record-bytes tombstone e k t = rw (o .stays (rw q t)) (same-bytes (some tombstone) e refl)
+      record-bytes (delta d) e k t =
+          let f : FitsRecord (delta d) = layerRecord .forth (drop at img) (delta d) (k .0) (k .1) .1 in
+          let m = o .merges d f (rw q t) in
+          rw (m .is) (new-bytes (some (delta d)) (m .new) (mergedDelta given a d) e refl (m .lived ∙ q) (m .writes given end g))
+
+      held-bytes : (h : List (ℕ × Record)) → liveOf i s ≡ underFirst h → Holds img (layerRecord .read) (some at) (underFirst h) → StandsAt byNumber inode layerRecord img (A.At at) h (cut .after)
+          → newBytes img given p r ≡ writeImage (onLive i (newOf given a i s) s)
+      held-bytes [] e k t = absurd k
+      held-bytes (x ∷ h) e k t = record-bytes (x .1) e k t
+
+-- there is a live record
+pub updates-live : {img : List ℕ} {p : Sections} {stk : InodeLayerStack} {i : ℕ} {a : AttrDelta} {cut : Cut} {at : ℕ} {l : Lived} {r : NewImage}
+    → CutsRecords img (p .live) i cut → cut .place ≡ A.At at → l ≡ livedOf cut i → Onto img at l a r → Updates img p stk i a r
+updates-live {img} {p} {stk} {i} {a} {cut} {at} {l} {r} c e q o = record {
+  writes = λ s w k given end g.
+      held-bytes w i a given c at l r q o end g (rowHere byNumber i (s .live .rows)) (get-here byNumber i (s .live)) (rw e at (is-cut w c .holds)) (rw e at (is-cut w c .stands));
+}
+
+none-live : {img : List ℕ} {p : Sections} {s : Store} {i : ℕ} {cut : Cut} → Stands img p s → CutsRecords img (p .live) i cut → cut .place ≡ A.Nowhere → liveOf i s ≡ none
+none-live {img} {p} {s} {i} w c e = get-here byNumber i (s .live) ∙ go (underFirst (rowHere byNumber i (s .live .rows))) (rw e at (is-cut w c .holds))
+  where
+    go : (o : Option Record) → Holds img (layerRecord .read) none o → o ≡ none
+    go none h = refl
+    go (some r) h = absurd h
+
+module _ {img : List ℕ} {p : Sections} {stk : InodeLayerStack} {i : ℕ} {a : AttrDelta} {cut : Cut} {t : OptionType} where
+  -- "with no live record makes a delta of the type below"
+  pub updates-new : {f : FileType} {n : ℕ} {l : Lived} {u : Updated} → CutsRecords img (p .live) i cut → cut .place ≡ A.Nowhere → typeOf t ≡ shown type img stk → t ≡ M.Some f
+      → n ≡ suc (kindNumber (kindMeant f)) → l ≡ livedOf cut i → u ≡ newDelta l n a → Updates img p stk i a (N.Updated u)
+  updates-new {f} {n} {l} {u} c e d z m q y = record {
+    writes = λ s w k given end g.
+        let v = none-live w c e in
+        let b : typeBelow s i ≡ some (kindMeant f) = sym (type-under k (w .is) v) ∙ sym d ∙ ap typeOf z in
+        rw (y, m) (new-bytes w i a given c none (newDelta l (suc (kindNumber (kindMeant f))) a) (bareDelta (fieldsMeant given a) (kindMeant f)) v
+        (ap (mapIf (bareDelta (fieldsMeant given a))) b) q (new-delta-bytes img given l (kindMeant f) a end g));
+  }
+
+  -- "or does nothing if none exists"
+  pub updates-none : CutsRecords img (p .live) i cut → cut .place ≡ A.Nowhere → typeOf t ≡ shown type img stk → t ≡ M.None → Updates img p stk i a N.Same
+  updates-none c e d z = record {
+    writes = λ s w k given end g.
+        let v = none-live w c e in
+        let b : typeBelow s i ≡ none = sym (type-under k (w .is) v) ∙ sym d ∙ ap typeOf z in
+        same-bytes w i a given none v (ap (mapIf (bareDelta (fieldsMeant given a))) b);
+  }
+
+-- ---- the call
+
+true-not : _≡_ {A = Bool} true false → ⊥
+true-not e = let z : _≡_ {A = ℕ} 0 1 = cc in omega arith
+
+-- whether one construct was given, and no more
+module _ {A : Type 0} (c : Codec A) {given : List ℕ} {a : A} {q : ℕ} (r : Reads given (c .read) (At 0) a (At q)) where
+  read-whole : q ≡ length given → ifRead (decode c given) ≡ some a
+  unfolding decode
+  read-whole h = rw (r .same, drop-of-length-le given {i = q} (omega (arith, h)))
+
+  read-longer : (q ≡ length given → ⊥) → ifRead (decode c given) ≡ none
+  unfolding decode
+  read-longer h = rw (r .same) (go (drop q given) (omega (arith, h, r .within, length-drop q given)))
+    where
+      go : (t : List ℕ) → 0 < length t → ifRead (whole (got a t)) ≡ none
+      go [] h = absurd (omega arith)
+      go (x ∷ t) h = refl
+
+module _ {given : List ℕ} {a : AttrDelta} where
+  given-bad : (next : Cursor) → ReadsAttr given (At 0) a next → leftOver next (length given) ≡ true → givenFields given ≡ none
+  unfolding decode
+  given-bad (At q) r h = read-longer fields (r .reads) (λ e. go (eqb q (length given)) refl e h)
+    where
+      go : (b : Bool) → eqb q (length given) ≡ b → q ≡ length given → not b ≡ true → ⊥
+      go true d e h = true-not (sym h)
+      go false d e h = eqb-false q (length given) d e
+  given-bad (Stop f) r h = rw (r .reads .same)
+
+  given-good : (next : Cursor) → ReadsAttr given (At 0) a next → leftOver next (length given) ≡ false
+      → (givenFields given ≡ some (fieldsMeant given a)) × ((end : ℕ) × ListedIf given U.Change (a .xattrs) end)
+  given-good (At q) r h = (read-whole fields (r .reads) (go (eqb q (length given)) refl h), (q, r .listed))
+    where
+      go : (b : Bool) → eqb q (length given) ≡ b → not b ≡ false → q ≡ length given
+      go true d h = eqb-true q (length given) d
+      go false d h = absurd (true-not h)
+  given-good (Stop f) r h = absurd (true-not h)
+
+module _ {img : List ℕ} {p : Sections} {s : Store} {given : List ℕ} {a : AttrDelta} {next : Cursor} {old : List ℕ} (w : Stands img p s) (r : ReadsAttr given (At 0) a next) where
+  -- "4 if the delta given breaks the layout, has bytes left over"
+  pub update-refused : (i : ℕ) → leftOver next (length given) ≡ true → Changes (updateAttrDelta usual img i given (length old)) old (R.Refused 4) old
+  update-refused i h = changes-refused (Call.update i (givenFields given)) w (rw (given-bad next r h))
+
+  pub update-made : {i : ℕ} {stk : InodeLayerStack} {n : NewImage} {new : List ℕ} {answer : ChangeAnswer} → leftOver next (length given) ≡ false → StackOf img i stk → Updates img p stk i a n
+      → Changes (ifFits (newBytes img given p n) (length old)) old answer new → Changes (updateAttrDelta usual img i given (length old)) old answer new
+  unfolding result
+  update-made {i} h k u z =
+      let g = given-good next r h in
+      changes-made (Call.update i (givenFields given)) w (rw (g .0)) (u .writes s w k given (g .1 .0) (g .1 .1) ∙ rw (g .0)) z

@@ -1,0 +1,4 @@
+-- What the calls answer, and what they write.
+pub mod Merged
+pub mod Anew
+pub mod Updates

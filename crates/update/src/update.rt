@@ -1,0 +1,144 @@
+// Update of one inode's attributes.
+ghost use mathlib.Core.Path.{_≡_};
+ghost use lib.ListN.{length};
+ghost use Prim.Native.Nat.{suc};
+ghost use Rattle.image.specs.Meaning.{kindNumber};
+ghost use Rattle.attrs.specs.Meant.{kindMeant};
+ghost use Rattle.layers.specs.Stacks.{Stacked};
+ghost use Rattle.rules.specs.Initial.{usual};
+ghost use Rattle.rules.specs.ChangeCalls.{updateAttrDelta};
+ghost use Rattle.change.specs.Changed.{Changes};
+ghost use Rattle.update.specs.Updates.{leftOver, Onto, Updates, newDelta};
+use crate::fields::NewChange;
+use crate::fields::Updated;
+use crate::fields::attr_over;
+use crate::write::NewImage;
+use crate::write::write_image;
+use attrs::node::FileType;
+use change::answer::ChangeAnswer;
+use change::cut::cut_records;
+use change::section::Sections;
+use change::section::open_inode;
+use image::batch::InodeLayerStack;
+use image::inode::Place;
+use layers::file_type::OptionType;
+use layers::layers::type_in;
+use nodes::attr::AttrDelta;
+use nodes::attr::read_attr_delta;
+use nodes::option::OptionPart;
+use overlay::live::lived;
+use overlay::write::Lived;
+use wire::cursor::Cursor;
+use wire::cursor::place_at;
+use wire::number::read_number;
+
+// Merges the fields given, a mask and what it says is there, into the live delta.
+pub fn update_attr_delta(img: &[u8], ino: u64, delta: &[u8], target: &mut [u8]) -> ChangeAnswer
+    ensures { λ r. ⌜ Changes (updateAttrDelta usual (now (img .entry)) ino (now (delta .entry)) (length (now (target .entry)))) (now (target .entry)) r (now (target .exit)) ⌝ }
+{
+    let opened = open_inode(img, ino);
+    if opened.refusal != 0 {
+        return ChangeAnswer::Refused(opened.refusal);
+    }
+    let read = read_attr_delta(delta, Cursor::At(0));
+    let next = read.next;
+    let fields = read.attr_delta;
+    if unfinished(delta, next) {
+        return ChangeAnswer::Refused(4);
+    }
+    let sections = opened.sections;
+    let stack = opened.stack;
+    let new = with_fields(img, sections, stack, ino, fields);
+    write_image(img, delta, sections, new, target)
+}
+
+// Whether a reading stopped, or left bytes over.
+fn unfinished(bytes: &[u8], next: Cursor) -> bool
+    ensures { λ r. ⌜ r ≡ leftOver next (length (now (bytes .entry))) ⌝ }
+{
+    match next {
+        Cursor::At(end) => end != bytes.len(),
+        Cursor::Stop(_) => true,
+    }
+}
+
+// The image with the fields merged into the live delta; with no live record, with a delta of the type below.
+fn with_fields(
+    img: &[u8],
+    sections: Sections,
+    stack: InodeLayerStack,
+    ino: u64,
+    fields: AttrDelta,
+) -> NewImage
+    requires { ⌜ Stacked (now img) stack ⌝ }
+    ensures { λ r. ⌜ Updates (now (img .entry)) sections stack ino fields r ⌝ }
+{
+    let cut = cut_records(img, sections.live, ino);
+    let place = cut.place;
+    match place {
+        Place::At(at) => onto_live(img, at, lived(cut, ino), fields),
+        Place::Nowhere => {
+            let below = type_in(img, stack);
+            match below {
+                OptionType::Some(kind) => {
+                    NewImage::Updated(new_delta(lived(cut, ino), type_code(kind), fields))
+                }
+                OptionType::None => NewImage::Same,
+            }
+        }
+    }
+}
+
+// The live record at a place, with the fields merged into it. A tombstone stays.
+fn onto_live(img: &[u8], at: usize, lived: Lived, fields: AttrDelta) -> NewImage
+    ensures { λ r. ⌜ Onto (now (img .entry)) at lived fields r ⌝ }
+{
+    let code = read_number(img, Cursor::At(at), 7);
+    if code.value == 0 {
+        return NewImage::Same;
+    }
+    let start = code.next;
+    let read = read_attr_delta(img, start);
+    let next = read.next;
+    let below = read.attr_delta;
+    let new = fields.xattrs;
+    let old = below.xattrs;
+    NewImage::Updated(Updated {
+        lived,
+        code: code.value,
+        attr_delta: attr_over(fields, below),
+        new,
+        old,
+        change: NewChange::Kept(place_at(next)),
+    })
+}
+
+// A delta of this code that has the fields, and changes nothing else.
+fn new_delta(lived: Lived, code: u64, fields: AttrDelta) -> Updated
+    ensures { λ r. ⌜ r ≡ newDelta lived code fields ⌝ }
+{
+    let new = fields.xattrs;
+    Updated {
+        lived,
+        code,
+        attr_delta: fields,
+        new,
+        old: OptionPart::None,
+        change: NewChange::Bare(code),
+    }
+}
+
+// The code of a delta of this type: its number and 1.
+fn type_code(kind: FileType) -> u64
+    ensures { λ r. ⌜ r ≡ suc (kindNumber (kindMeant kind)) ⌝ }
+{
+    match kind {
+        FileType::Directory => 1,
+        FileType::RegularFile => 2,
+        FileType::Symlink => 3,
+        FileType::NamedPipe => 4,
+        FileType::CharDevice => 5,
+        FileType::BlockDevice => 6,
+        FileType::Socket => 7,
+    }
+}
