@@ -135,10 +135,10 @@ directed-bytes img given n a b l da db =
 -- ---- the new image
 
 -- what stands under a key is put there again
-put-same : {K A : Type 0} (O : Order K) (k : K) (v : A) (m : Map O A) → get O k m ≡ some v → put O k (some v) m ≡ m
-put-same {K} {A} O k v m e = map-ext O (put O k (some v) m) m (λ j. get-put O j k (some v) m ∙ go j (O .cmp j k) refl)
+pub put-same : {K A : Type 0} (O : Order K) (k : K) (o : Option A) (m : Map O A) → get O k m ≡ o → put O k o m ≡ m
+put-same {K} {A} O k o m e = map-ext O (put O k o m) m (λ j. get-put O j k o m ∙ go j (O .cmp j k) refl)
   where
-    go : (j : K) (d : Ordering) → O .cmp j k ≡ d → choose d (some v) (get O j m) ≡ get O j m
+    go : (j : K) (d : Ordering) → O .cmp j k ≡ d → choose d o (get O j m) ≡ get O j m
     go j Less h = refl
     go j Equal h = sym e ∙ ap (λ (x : K). get O x m) (sym (O .same j k h))
     go j Greater h = refl
@@ -159,7 +159,7 @@ module _ {img : List ℕ} {p : Sections} {i : ℕ} {cut : Cut} (c : CutsRecords 
     writes = λ s w.
         let o : IsOther (get byNumber i (s .live)) = rw e at (lives w) in
         sym (read-then-write img s (w .is))
-        ∙ ap (λ (m : Map byNumber Record). writeImage (setLive m s)) (sym (ap (λ (x : Option Record). put byNumber i x (s .live)) (o .stays D) ∙ put-same byNumber i (o .is) (s .live) (o .same)));
+        ∙ ap (λ (m : Map byNumber Record). writeImage (setLive m s)) (sym (ap (λ (x : Option Record). put byNumber i x (s .live)) (o .stays D) ∙ put-same byNumber i (some (o .is)) (s .live) (o .same)));
   }
 
   module _ {d : LiveDelta} (e : live ≡ D.Directory d) where

@@ -57,10 +57,23 @@ use Rattle.change.proofs.Sections.{span-part, span-both, store-bytes, stands-fi
 use Rattle.change.proofs.Finishing.{changes-refused, changes-made}
 use Rattle.change.proofs.Cutting.{insert-cut, chain-rows, rows-append, count-cut}
 
-not-false : _≡_ {A = Bool} true false → ⊥
+pub not-false : _≡_ {A = Bool} true false → ⊥
 not-false e = let z : _≡_ {A = ℕ} 0 1 = cc in omega arith
 
--- ---- whether one delta was given
+-- ---- whether one construct was given, and no more
+
+module _ {A : Type 0} (c : Codec A) {given : List ℕ} {a : A} {q : ℕ} (r : Reads given (c .read) (At 0) a (At q)) where
+  pub read-whole : q ≡ length given → ifRead (decode c given) ≡ some a
+  unfolding decode
+  read-whole h = rw (r .same, drop-of-length-le given {i = q} (omega (arith, h)))
+
+  pub read-longer : (q ≡ length given → ⊥) → ifRead (decode c given) ≡ none
+  unfolding decode
+  read-longer h = rw (r .same) (go (drop q given) (omega (arith, h, r .within, length-drop q given)))
+    where
+      go : (t : List ℕ) → 0 < length t → ifRead (whole (got a t)) ≡ none
+      go [] h = absurd (omega arith)
+      go (x ∷ t) h = refl
 
 module _ {given : List ℕ} {a : Record} {next : Cursor} (r : Reads given (layerRecord .read) (At 0) a next) where
   -- not all was read
@@ -69,20 +82,11 @@ module _ {given : List ℕ} {a : Record} {next : Cursor} (r : Reads given (layer
   given-broken e = rw ((rw e at r) .same)
 
   module _ {q : ℕ} (e : next ≡ At q) where
-    given-read : layerRecord .read given ≡ got a (drop q given)
-    given-read = (rw e at r) .same
-
     given-whole : q ≡ length given → givenRecord given ≡ some a
-    unfolding decode
-    given-whole h = rw (given-read, drop-of-length-le given {i = q} (omega (arith, h)))
+    given-whole = read-whole layerRecord (rw e at r)
 
     given-longer : (q ≡ length given → ⊥) → givenRecord given ≡ none
-    unfolding decode
-    given-longer h = rw given-read (go (drop q given) (omega (arith, h, (rw e at r) .within, length-drop q given)))
-      where
-        go : (t : List ℕ) → 0 < length t → ifRead (whole (got a t)) ≡ none
-        go [] h = absurd (omega arith)
-        go (x ∷ t) h = refl
+    given-longer = read-longer layerRecord (rw e at r)
 
     given-by-end : noDelta (some a) ≡ false → not (eqb q (length given)) ≡ noDelta (givenRecord given)
     given-by-end h = go (eqb q (length given)) refl

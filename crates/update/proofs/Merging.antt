@@ -2,7 +2,7 @@
 -- Assumes nothing.
 use mathlib.Core.Path.{_≡_, refl, sym, ap, _∙_}
 use mathlib.Core.Bool.{Bool, true, false, cond}
-use mathlib.Core.List.{List, [], _∷_, _++_, append-assoc, append-nil}
+use mathlib.Core.List.{List, [], _∷_, _++_, append-assoc}
 use mathlib.Core.Option.{Option, none, some}
 use Prim.Native.Nat.{ℕ, zero, suc, _+_, _-_, _≤_, _<_}
 use native.Mathlib.Omega.{arith}
@@ -37,7 +37,7 @@ use Rattle.nodes.specs.Listed.{listAt, listOf, Listed, ListedIf}
 use Rattle.nodes.specs.declared.part.Part.{Part}
 use Rattle.nodes.specs.declared.option.OptionPart.{OptionPart}
 use Rattle.nodes.specs.declared.option.OptionPart.the-variants as P
-use Rattle.records.proofs.Writing.{put-nothing, list-written}
+use Rattle.records.proofs.Writing.{list-written}
 use Rattle.records.proofs.Records.{list-bytes}
 use Rattle.rules.specs.Changes.{mergeChanges}
 use Rattle.change.specs.Sections.{Spans}
@@ -49,6 +49,7 @@ use Rattle.update.specs.declared.merged.Turn.{Turn}
 use Rattle.update.specs.declared.merged.MergedRows.{MergedRows}
 use Rattle.change.proofs.Sections.{span-part}
 use Rattle.change.proofs.Cutting.{insert-cut, chain-rows}
+use Rattle.overlay.proofs.Living.{not-false}
 
 -- ---- rising lists
 
@@ -172,9 +173,6 @@ changes-written img given P.None old x y h k = list-bytes img y old k
 
 -- ---- the code
 
-true-not : _≡_ {A = Bool} true false → ⊥
-true-not e = let z : _≡_ {A = ℕ} 0 1 = cc in omega arith
-
 pub rows-from : {bytes : List ℕ} {at n : ℕ} (next : Cursor) → Answers bytes (number-read lastCount) (At at) 0 n next
     → RowsFrom bytes at (record { first = placeAt next; count = n })
 unfolding rowsRead
@@ -185,7 +183,7 @@ rows-from {bytes} {at} {n} next a = record { few = number-most (At at) next a; a
     go (Stop f) a = rw (a .reads .same, a .blank)
 
 no-row-is : {bytes : List ℕ} {l : Left} → rowsIn bytes l ≡ [] → RowIs bytes l (noRow l)
-no-row-is e = record { leads = λ z. absurd (true-not (sym z)); ended = λ z. e }
+no-row-is e = record { leads = λ z. absurd (not-false (sym z)); ended = λ z. e }
 
 pub row-none : {bytes : List ℕ} {l : Left} → l .count ≡ 0 → RowIs bytes l (noRow l)
 unfolding rowsRead
@@ -239,7 +237,7 @@ leads-to bytes l s n m end v c r p h =
 
 pub row-first : {bytes : List ℕ} {l : Left} (s n : ℕ) {end : ℕ} (start next : Cursor) → (l .count ≡ 0 → ⊥) → Reads bytes (name .read) (At (l .first)) (part bytes s n) start
     → Ends bytes (maybe value .read) start next → next ≡ At end → RowIs bytes l (rowTo l s n end)
-row-first {bytes} {l} s n {end} start next c r p e = record { leads = λ z. go start r (rw e at p); ended = λ z. absurd (true-not z) }
+row-first {bytes} {l} s n {end} start next c r p e = record { leads = λ z. go start r (rw e at p); ended = λ z. absurd (not-false z) }
   where
     under : (m : ℕ) → name .read (drop (l .first) bytes) ≡ got (part bytes s n) (drop m bytes) → (o : Parsed (Option Text)) → maybe value .read (drop m bytes) ≡ o
         → passed o ≡ got tt (drop end bytes) → end ≤ length bytes → Leads bytes l (rowTo l s n end)
@@ -271,7 +269,7 @@ module _ {img given : List ℕ} {new old : Left} where
         let n = b .ended e in
         record {
           goes = λ z. record { row = (part given (upper .start) (upper .length), a .change); is = rw (a .is, n); spells = a .spells; less = omega (arith, a .less) };
-          ended = λ z. absurd (true-not z);
+          ended = λ z. absurd (not-false z);
         }
 
     module _ {lower : Row} (b : Leads img old lower) where
@@ -282,21 +280,21 @@ module _ {img given : List ℕ} {new old : Left} where
       unfolding melded rowsBelow rowsAbove
       turn-less e = record {
         goes = λ z. record { row = (part given (upper .start) (upper .length), a .change); is = rw (a .is, b .is, e); spells = a .spells; less = omega (arith, a .less) };
-        ended = λ z. absurd (true-not z);
+        ended = λ z. absurd (not-false z);
       }
 
       pub turn-equal : order ≡ Equal → TurnIs img given new old (ownTurn new upper (lower .rest))
       unfolding melded rowsBelow rowsAbove
       turn-equal e = record {
         goes = λ z. record { row = (part given (upper .start) (upper .length), a .change); is = rw (a .is, b .is, e); spells = a .spells; less = omega (arith, a .less, b .less) };
-        ended = λ z. absurd (true-not z);
+        ended = λ z. absurd (not-false z);
       }
 
       pub turn-greater : order ≡ Greater → TurnIs img given new old (record { more = true; own = false; start = old .first; end = lower .rest .first; new = new; old = lower .rest })
       unfolding melded rowsBelow rowsAbove
       turn-greater e = record {
         goes = λ z. record { row = (part img (lower .start) (lower .length), b .change); is = rw (a .is, b .is, e); spells = b .spells; less = omega (arith, b .less) };
-        ended = λ z. absurd (true-not z);
+        ended = λ z. absurd (not-false z);
       }
 
 -- ---- the loop

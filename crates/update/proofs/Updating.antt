@@ -4,24 +4,20 @@ use mathlib.Core.Path.{_≡_, refl, sym, ap, subst, _∙_}
 use mathlib.Core.Bool.{Bool, true, false, not}
 use mathlib.Core.List.{List, [], _∷_, _++_, append-assoc}
 use mathlib.Core.Option.{Option, none, some}
-use Prim.Native.Nat.{ℕ, suc, _+_, _≤_, _<_}
+use Prim.Native.Nat.{ℕ, suc, _+_}
 use native.Mathlib.Omega.{arith}
-use lib.ListN.{length, drop, length-drop, drop-of-length-le}
+use lib.ListN.{length, drop}
 use lib.Dec.{eqb}
 use borrow.Author.Tests.{eqb-true, eqb-false}
 use Rattle.wire.specs.declared.cursor.Cursor.{Cursor}
 use Rattle.wire.specs.declared.cursor.Cursor.the-variants.{At, Stop}
 use Rattle.wire.specs.Orders.{byNumber}
-use Rattle.wire.specs.declared.order.Ordering.{Ordering}
-use Rattle.wire.specs.declared.order.Ordering.the-variants.{Less, Equal, Greater}
-use Rattle.wire.specs.Order.{Order}
-use Rattle.wire.specs.Maps.{Map, empty, get, put, get-put, map-ext}
-use Rattle.wire.specs.Rows.{choose}
+use Rattle.wire.specs.Maps.{empty, get, put}
 use Rattle.wire.specs.Parse.{got}
-use Rattle.wire.specs.Codec.{Codec, whole, decode}
+use Rattle.wire.specs.Codec.{decode}
 use Rattle.wire.specs.Combinators.{count, opt-write}
 use Rattle.wire.specs.Number.{numberBytes, groups, number-read, numberTo}
-use Rattle.wire.specs.Reading.{Reads, Answers, placeAt}
+use Rattle.wire.specs.Reading.{Answers, placeAt}
 use Rattle.image.specs.declared.name.Under.the-variants as U
 use Rattle.image.specs.declared.inode.Place.the-variants as A
 use Rattle.image.specs.declared.batch.InodeLayerStack.{InodeLayerStack}
@@ -57,7 +53,7 @@ use Rattle.rules.specs.Stacks.{over?, stackOn, batchLayers, withLive}
 use Rattle.rules.specs.Changes.{mapIf, mergeFields, mergeChanges, bareChange, bareDelta, updated}
 use Rattle.rules.specs.Queue.{setLive, onLive, typeBelow}
 use Rattle.rules.specs.Outcomes.{result}
-use Rattle.rules.specs.ChangeCalls.{ifRead, givenFields, updateAttrDelta}
+use Rattle.rules.specs.ChangeCalls.{givenFields, updateAttrDelta}
 use Rattle.rules.proofs.PlacedStack.{placed-stack, placed-node}
 use Rattle.change.specs.Changed.{Changes, ifFits}
 use Rattle.change.specs.Sections.{between, Spans, Stands}
@@ -77,8 +73,9 @@ use Rattle.update.specs.declared.fields.NewChange.the-variants as C
 use Rattle.update.specs.declared.fields.Updated.{Updated}
 use Rattle.change.proofs.Sections.{span-part, span-front, span-back, span-reads}
 use Rattle.change.proofs.Finishing.{changes-refused, changes-made}
-use Rattle.overlay.proofs.Living.{is-cut, lived-bytes}
+use Rattle.overlay.proofs.Living.{not-false, read-whole, read-longer, is-cut, lived-bytes}
 use Rattle.overlay.proofs.Entries.{get-here}
+use Rattle.overlay.proofs.Directories.{put-same}
 use Rattle.update.proofs.Merging.{changes-written}
 
 -- ---- "field by field"
@@ -241,15 +238,6 @@ type-under {img} {i} {stk} {s} w e n =
 
 -- ---- the new image
 
--- what stands under a key is put there again
-put-same : {K A : Type 0} (O : Order K) (k : K) (o : Option A) (m : Map O A) → get O k m ≡ o → put O k o m ≡ m
-put-same {K} {A} O k o m e = map-ext O (put O k o m) m (λ j. get-put O j k o m ∙ go j (O .cmp j k) refl)
-  where
-    go : (j : K) (d : Ordering) → O .cmp j k ≡ d → choose d o (get O j m) ≡ get O j m
-    go j Less h = refl
-    go j Equal h = sym e ∙ ap (λ (x : K). get O x m) (sym (O .same j k h))
-    go j Greater h = refl
-
 abbrev liveOf : ℕ → Store → Option Record
 liveOf i s = get byNumber i (s .live)
 
@@ -322,30 +310,13 @@ module _ {img : List ℕ} {p : Sections} {stk : InodeLayerStack} {i : ℕ} {a : 
 
 -- ---- the call
 
-true-not : _≡_ {A = Bool} true false → ⊥
-true-not e = let z : _≡_ {A = ℕ} 0 1 = cc in omega arith
-
--- whether one construct was given, and no more
-module _ {A : Type 0} (c : Codec A) {given : List ℕ} {a : A} {q : ℕ} (r : Reads given (c .read) (At 0) a (At q)) where
-  read-whole : q ≡ length given → ifRead (decode c given) ≡ some a
-  unfolding decode
-  read-whole h = rw (r .same, drop-of-length-le given {i = q} (omega (arith, h)))
-
-  read-longer : (q ≡ length given → ⊥) → ifRead (decode c given) ≡ none
-  unfolding decode
-  read-longer h = rw (r .same) (go (drop q given) (omega (arith, h, r .within, length-drop q given)))
-    where
-      go : (t : List ℕ) → 0 < length t → ifRead (whole (got a t)) ≡ none
-      go [] h = absurd (omega arith)
-      go (x ∷ t) h = refl
-
 module _ {given : List ℕ} {a : AttrDelta} where
   given-bad : (next : Cursor) → ReadsAttr given (At 0) a next → leftOver next (length given) ≡ true → givenFields given ≡ none
   unfolding decode
   given-bad (At q) r h = read-longer fields (r .reads) (λ e. go (eqb q (length given)) refl e h)
     where
       go : (b : Bool) → eqb q (length given) ≡ b → q ≡ length given → not b ≡ true → ⊥
-      go true d e h = true-not (sym h)
+      go true d e h = not-false (sym h)
       go false d e h = eqb-false q (length given) d e
   given-bad (Stop f) r h = rw (r .reads .same)
 
@@ -355,8 +326,8 @@ module _ {given : List ℕ} {a : AttrDelta} where
     where
       go : (b : Bool) → eqb q (length given) ≡ b → not b ≡ false → q ≡ length given
       go true d h = eqb-true q (length given) d
-      go false d h = absurd (true-not h)
-  given-good (Stop f) r h = absurd (true-not h)
+      go false d h = absurd (not-false h)
+  given-good (Stop f) r h = absurd (not-false h)
 
 module _ {img : List ℕ} {p : Sections} {s : Store} {given : List ℕ} {a : AttrDelta} {next : Cursor} {old : List ℕ} (w : Stands img p s) (r : ReadsAttr given (At 0) a next) where
   -- "4 if the delta given breaks the layout, has bytes left over"

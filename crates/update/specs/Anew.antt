@@ -19,15 +19,15 @@ use Rattle.update.specs.declared.write.NewImage.the-variants as N
 abbrev pub bareBytes : ℕ → List ℕ
 bareBytes code = cond (eqb code 1) (numberBytes 0 ++ (numberBytes 0 ++ numberBytes 0)) (numberBytes 0)
 
--- what stands after the fields, in a record that ends at `after`
-abbrev pub changeAnew : List ℕ → NewChange → ℕ → List ℕ
-changeAnew img (C.Kept start) after = between img start after
-changeAnew img (C.Bare code) after = bareBytes code
+-- what stands after the fields of a delta of this code, in place of a record that ends at `after`
+abbrev pub changeAnew : List ℕ → ℕ → NewChange → ℕ → List ℕ
+changeAnew img code (C.Kept start) after = between img start after
+changeAnew img code C.Bare after = bareBytes code
 
 -- a delta from its code on
 abbrev pub deltaAnew : List ℕ → List ℕ → Updated → List ℕ
 deltaAnew img given n =
-    numberBytes (n .code) ++ (attrBytes (n .«attr_delta») ++ (changesAnew img given (n .new) (n .old) ++ changeAnew img (n .change) (n .lived .after)))
+    numberBytes (n .code) ++ (attrBytes (n .«attr_delta») ++ (changesAnew img given (n .new) (n .old) ++ changeAnew img (n .code) (n .change) (n .lived .after)))
 
 -- the image with that delta as the live record
 abbrev pub updatedImage : List ℕ → List ℕ → Sections → Updated → List ℕ

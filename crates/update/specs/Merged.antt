@@ -17,6 +17,7 @@ use Rattle.image.specs.Meaning.{Text}
 use Rattle.image.specs.Masks.{maybe}
 use Rattle.image.specs.FieldLayout.{name, value}
 use Rattle.nodes.specs.Options.{textAt}
+use Rattle.nodes.specs.Attrs.{attrDelta}
 use Rattle.nodes.specs.declared.attr.AttrDelta.{AttrDelta}
 use Rattle.nodes.specs.declared.attr.Words.{Words}
 use Rattle.nodes.specs.declared.attr.Times.{Times}
@@ -153,14 +154,4 @@ timesOver a b = record {
 }
 
 abbrev pub attrOver : AttrDelta → AttrDelta → AttrDelta
-attrOver a b = record {
-  mode = orWord (a .mode) (b .mode);
-  uid = orWord (a .uid) (b .uid);
-  gid = orWord (a .gid) (b .gid);
-  nlink = orWord (a .nlink) (b .nlink);
-  atime = orTime (a .atime) (b .atime);
-  mtime = orTime (a .mtime) (b .mtime);
-  ctime = orTime (a .ctime) (b .ctime);
-  «created_at» = orTime (a .«created_at») (b .«created_at»);
-  xattrs = orPart (a .xattrs) (b .xattrs);
-}
+attrOver a b = attrDelta (wordsOver a b) (timesOver a b) (orPart (a .xattrs) (b .xattrs))

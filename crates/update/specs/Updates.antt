@@ -35,7 +35,7 @@ leftOver (C.At q) n = not (eqb q n)
 leftOver (C.Stop f) n = true
 
 abbrev pub newDelta : Lived → ℕ → AttrDelta → Updated
-newDelta l code a = record { lived = l; code = code; «attr_delta» = a; new = a .xattrs; old = P.None; change = K.Bare code }
+newDelta l code a = record { lived = l; code = code; «attr_delta» = a; new = a .xattrs; old = P.None; change = K.Bare }
 
 -- the fields of a delta, with those given over them
 abbrev pub mergedDelta : List ℕ → AttrDelta → Delta → Record

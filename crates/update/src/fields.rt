@@ -19,8 +19,8 @@ use wire::number::put_number;
 pub enum NewChange {
     // as it stands in the image, from this place to the end of the record
     Kept(usize),
-    // that of a delta of this code that changes nothing
-    Bare(u64),
+    // that of a delta which changes nothing
+    Bare,
 }
 
 // The live delta of an inode, of this code. Its attribute changes are those of the delta given, merged with those in the image.
@@ -141,12 +141,19 @@ fn put_bare(buf: &mut [u8], at: usize, code: u64) -> usize
     put_number(buf, at, 0)
 }
 
-fn put_new_change(buf: &mut [u8], at: usize, img: &[u8], change: NewChange, after: usize) -> usize
-    ensures { λ r. ⌜ Put (now (buf .entry)) at (changeAnew (now (img .entry)) change after) r (now (buf .exit)) ⌝ }
+fn put_new_change(
+    buf: &mut [u8],
+    at: usize,
+    img: &[u8],
+    code: u64,
+    change: NewChange,
+    after: usize,
+) -> usize
+    ensures { λ r. ⌜ Put (now (buf .entry)) at (changeAnew (now (img .entry)) code change after) r (now (buf .exit)) ⌝ }
 {
     match change {
         NewChange::Kept(start) => put_between(buf, at, img, start, after),
-        NewChange::Bare(code) => put_bare(buf, at, code),
+        NewChange::Bare => put_bare(buf, at, code),
     }
 }
 
@@ -162,5 +169,5 @@ pub fn put_updated(buf: &mut [u8], at: usize, img: &[u8], given: &[u8], updated:
     let fields = put_number(buf, at, updated.code);
     let list = put_attr_delta(buf, fields, attr_delta);
     let rest = put_changes(buf, list, img, given, new, old);
-    put_new_change(buf, rest, img, change, lived.after)
+    put_new_change(buf, rest, img, updated.code, change, lived.after)
 }

@@ -14,6 +14,7 @@ use crate::fields::Updated;
 use crate::fields::attr_over;
 use crate::write::NewImage;
 use crate::write::write_image;
+use attrs::attr::type_row;
 use attrs::node::FileType;
 use change::answer::ChangeAnswer;
 use change::cut::cut_records;
@@ -124,7 +125,7 @@ fn new_delta(lived: Lived, code: u64, fields: AttrDelta) -> Updated
         attr_delta: fields,
         new,
         old: OptionPart::None,
-        change: NewChange::Bare(code),
+        change: NewChange::Bare,
     }
 }
 
@@ -132,13 +133,5 @@ fn new_delta(lived: Lived, code: u64, fields: AttrDelta) -> Updated
 fn type_code(kind: FileType) -> u64
     ensures { λ r. ⌜ r ≡ suc (kindNumber (kindMeant kind)) ⌝ }
 {
-    match kind {
-        FileType::Directory => 1,
-        FileType::RegularFile => 2,
-        FileType::Symlink => 3,
-        FileType::NamedPipe => 4,
-        FileType::CharDevice => 5,
-        FileType::BlockDevice => 6,
-        FileType::Socket => 7,
-    }
+    (type_row(kind) as u64) + 1
 }

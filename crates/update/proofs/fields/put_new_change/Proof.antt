@@ -8,8 +8,8 @@ enum-known-change c = search needs
 put-between-requires : tie.Need-put-between-requires
 put-between-requires c κs = search needs
 
-enum-known-change-2 : tie.Need-enum-known-change-2
-enum-known-change-2 c = search needs
+enum-told : tie.Need-enum-told
+enum-told c = search needs
 
 put-bare-requires : tie.Need-put-bare-requires
 put-bare-requires c κs = search needs
@@ -24,7 +24,7 @@ same-length-2 : tie.Need-same-length-2
 same-length-2 c = search needs
 
 returns-2 : tie.Need-returns-2
-returns-2 c = rw (c .before .before .before .before .before .change2 .given .1) (c .before .before .put-bare .ensures)
+returns-2 c = rw (c .before .before .before .before .enum-told .given .1) (c .before .before .put-bare .ensures)
 
 pub put-new-change-spec : {M : Type 1} → statement M
 put-new-change-spec =
@@ -32,7 +32,7 @@ put-new-change-spec =
     (tie.spec
     enum-known-change
     put-between-requires
-    enum-known-change-2
+    enum-told
     put-bare-requires
     same-length
     returns
