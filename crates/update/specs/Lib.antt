@@ -1,4 +1,5 @@
 -- What the calls answer, and what they write.
 pub mod Merged
+pub mod Fields
 pub mod Anew
 pub mod Updates

@@ -1,7 +1,7 @@
 // A live delta with other fields.
 ghost use mathlib.Core.Path.{_≡_};
 ghost use Rattle.wire.specs.Put.{Put};
-ghost use Rattle.update.specs.Merged.{orWord, orTime, orPart, wordsOver, timesOver, attrOver};
+ghost use Rattle.update.specs.Fields.{orWord, orTime, orPart, wordsOver, timesOver, attrOver};
 ghost use Rattle.update.specs.Anew.{bareBytes, changeAnew, deltaAnew};
 use crate::merged::put_changes;
 use change::copy::put_between;

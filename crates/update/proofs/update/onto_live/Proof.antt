@@ -1,7 +1,7 @@
 use borrow.Author.Needs.{needs}
 use Rattle.update.proofs.update.onto_live.Statement.{statement}
 use Rattle.update.proofs.update.onto_live.Tie as tie
-use Rattle.update.proofs.Updating.{onto-dead, onto-delta}
+use Rattle.update.proofs.Onto.{onto-dead, onto-delta}
 
 read-number-requires : tie.Need-read-number-requires
 read-number-requires c κs = search needs
