@@ -60,6 +60,7 @@ rowsAt bytes p = orEnd (number-read lastCount (drop p bytes)) rowsRead
 
 -- ---- what the code answers
 
+-- the rows of the list at a place
 pub record RowsFrom (bytes : List ℕ) (at : ℕ) (r : Left) : Type 0 where
   pub few : r .count ≤ lastCount
   pub are : rowsIn bytes r ≡ rowsAt bytes at
@@ -67,12 +68,14 @@ pub record RowsFrom (bytes : List ℕ) (at : ℕ) (r : Left) : Type 0 where
 abbrev pub noRow : Left → Row
 noRow l = record { there = false; start = 0; «length» = 0; rest = l }
 
+-- this row is the first, and its bytes are those up to the rows after it
 pub record Leads (bytes : List ℕ) (l : Left) (r : Row) : Type 0 where
   pub change : Option Text
   pub is : rowsIn bytes l ≡ (part bytes (r .start) (r .length), change) ∷ rowsIn bytes (r .rest)
   pub spells : between bytes (l .first) (r .rest .first) ≡ changeBytes (part bytes (r .start) (r .length), change)
   pub less : suc (r .rest .count) ≡ l .count
 
+-- the first row, or there is none
 pub record RowIs (bytes : List ℕ) (l : Left) (r : Row) : Type 0 where
   pub leads : r .there ≡ true → Leads bytes l r
   pub ended : r .there ≡ false → rowsIn bytes l ≡ []
@@ -81,6 +84,7 @@ pub record RowIs (bytes : List ℕ) (l : Left) (r : Row) : Type 0 where
 abbrev pub ownTurn : Left → Row → Left → Turn
 ownTurn new upper old = record { more = true; own = true; start = new .first; end = upper .rest .first; new = upper .rest; old = old }
 
+-- the row of the image, if there is one, and then what is left
 abbrev pub lowerTurn : Left → Left → Row → Turn
 lowerTurn new old lower = record { more = lower .there; own = false; start = old .first; end = lower .rest .first; new = new; old = lower .rest }
 
@@ -92,16 +96,19 @@ module _ (img given : List ℕ) where
   abbrev pub turnBytes : Turn → List ℕ
   turnBytes r = between (cond (r .own) given img) (r .start) (r .end)
 
+  -- this turn's row is the next of both
   pub record Goes (new old : Left) (r : Turn) : Type 0 where
     pub row : ChangeRow
     pub is : bothRows new old ≡ row ∷ bothRows (r .new) (r .old)
     pub spells : turnBytes r ≡ changeBytes row
     pub less : r .new .count + r .old .count < new .count + old .count
 
+  -- the next row of both, or there is none
   pub record TurnIs (new old : Left) (r : Turn) : Type 0 where
     pub goes : r .more ≡ true → Goes new old r
     pub ended : r .more ≡ false → bothRows new old ≡ []
 
+  -- the rows of both are put, and counted
   pub record PutsRows (new old : Left) (buf : List ℕ) (at : ℕ) (r : MergedRows) (end : List ℕ) : Type 0 where
     pub put : Put buf at (rowsBytes name (maybe value) (bothRows new old)) (r .end) end
     pub counts : r .count ≡ length (bothRows new old)
