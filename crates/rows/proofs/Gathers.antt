@@ -18,7 +18,6 @@ use Rattle.image.specs.Held.{placeOf}
 use Rattle.image.specs.NodeLayout.{node}
 use Rattle.image.specs.RecordLayout.{fields, layerRecord}
 use Rattle.wire.specs.Orders.{byBytes}
-use Rattle.wire.specs.Maps.{Map}
 use Rattle.nodes.specs.declared.part.Part.{Part}
 use Rattle.nodes.specs.declared.delta.NodeDelta.{NodeDelta}
 use Rattle.nodes.specs.declared.delta.NodeDelta.the-variants as D
@@ -38,43 +37,18 @@ use Rattle.rules.specs.Starts.{entriesAt, addedAt}
 use Rattle.rules.specs.PlacedStacks.{recordsOn, nodeAt}
 use Rattle.rules.proofs.ListPlaces.{added-at, entries-at}
 use Rattle.merge.specs.Pile.{rowsOf, decisions}
-use Rattle.merge.specs.Sources.{Decided, listRows, ListOf}
-use Rattle.merge.specs.Merges.{sourcesOf, Whole, NoSources, withSource, Ready, plainRow}
-use Rattle.rows.specs.Listings.{changeLists, alterLists, deltaLists, recordLists, isTombstone, entryLists, nodeLists, baseLists, Pushes, Gathers}
+use Rattle.merge.specs.Sources.{Decided, listRows}
+use Rattle.merge.specs.Merges.{sourcesOf, Whole, NoSources, Pushes, Ready, plainRow}
+use Rattle.rows.specs.Listings.{changeLists, alterLists, deltaLists, recordLists, isTombstone, entryLists, nodeLists, baseLists, Gathers}
 use Rattle.layers.specs.Stacks.{Stacked, recordsUnder, recordsIn, nodeIn, RecordIs, NodeIs, BaseIs}
-use Rattle.merge.specs.declared.source.Source.{Source}
 use Rattle.rows.specs.declared.listing.Listing.{Listing}
 use Rattle.rows.specs.declared.listing.Listing.the-variants as L
 use Rattle.layers.specs.declared.stack.OptionNode.{OptionNode}
 use Rattle.layers.specs.declared.stack.OptionNode.the-variants as O
 use Rattle.merge.specs.declared.merge.Sources.{Sources}
-use Rattle.merge.proofs.Lists.{sourceOf, list-are}
-use Rattle.rows.proofs.Decide.{removedAt, bodyPile, nodePile, changePile, alterPile, deltaPile, recordPile, pileOf, pileRows, pile-shows, pile-ascends}
-use Rattle.merge.proofs.Merging.{pushed-whole, pushed-sources}
+use Rattle.merge.proofs.Lists.{pileRows, rows-append, sourceOf, list-are, pile-ascends}
+use Rattle.rows.proofs.Decide.{bodyPile, nodePile, changePile, alterPile, deltaPile, recordPile, pileOf, pile-shows}
 use Rattle.layers.proofs.Walks.{records-more}
-
--- ---- sources more
-
-module _ {img : List ℕ} {all : Sources} where
-  pub push-none : Whole img all → Pushes img all [] all
-  push-none w = record { are = sym (append-nil (sourcesOf img all)); more = omega arith; whole = w }
-
-  pub push-one : {u : Under} {p : ℕ} {s : Source} {r : Sources} → Whole img all → all .count < 35 → ListOf img u p s → r ≡ withSource all s → Pushes img all (listRows img u p ∷ []) r
-  push-one {u} {p} {s} {r} w h l e =
-      rw e (record { are = pushed-sources w h s ∙ rw (l .are); more = omega arith; whole = pushed-whole w h (l .inside) })
-
-  pub push-both : {over : Sources} {xs ys : List (List Decided)} {r : Sources} → Pushes img all xs over → Pushes img over ys r → Pushes img all (xs ++ ys) r
-  push-both {over} {xs} {ys} p q = record {
-    are = q .are ∙ rw (p .are) (append-assoc (sourcesOf img all) xs ys);
-    more = omega (arith, p .more, q .more, length-append xs ys);
-    whole = q .whole;
-  }
-
-pub push-two : {img : List ℕ} {all over : Sources} {u v : Under} {p q : ℕ} {s t : Source} {r : Sources} → Whole img all → all .count < 34 → ListOf img u p s → ListOf img v q t → over ≡ withSource all s → r ≡ withSource over t
-    → Pushes img all (listRows img u p ∷ (listRows img v q ∷ [])) r
-push-two w h l k e d =
-    let o = push-one w (omega arith) l e in
-    push-both o (push-one (o .whole) (omega (arith, o .more)) k d)
 
 -- ---- what the lists of a record and of a node mean
 
@@ -98,11 +72,6 @@ module _ (img : List ℕ) (u : Under) {p : Part} {end : ℕ} (l : Listed img u p
   -- as a source it is that of the map
   list-source : {q : ℕ} → p .start ≡ q → listRows img u (p .start) ≡ sourceOf u q (listAt img u p) .rows
   list-source e = rw (← e) (list-are img u (p .start) (listAt img u p) (drop end img) (l .is))
-
-rows-append : (xs ys : List (Map byBytes (Option (ℕ × ℕ)))) → pileRows (xs ++ ys) ≡ pileRows xs ++ pileRows ys
-unfolding rowsOf
-rows-append [] ys = refl
-rows-append (x ∷ xs) ys = rw (rows-append xs ys)
 
 module _ (img : List ℕ) (p : ℕ) where
   change-lists : (n : NodeDelta) (end : ℕ) → layerRecord .read (drop p img) ≡ got (M.delta (deltaMeant img n)) (drop end img) → ChangeListed img n end

@@ -17,6 +17,7 @@ use Rattle.merge.specs.Merges.{NoSources, Ready, decidedRows, rowOfMerge, rowsI
 use Rattle.rows.specs.Listings.{rowsListed, Gathers}
 use Rattle.rows.specs.Plans.{entryOf, roomFor, answerOf, NoRows, Fits, Plans, countIn, planCount, planRow, planAnswer, Advances, Filled}
 use Rattle.rows.specs.declared.listing.Listing.{Listing}
+use Rattle.nodes.specs.declared.part.Part.{Part}
 use Rattle.merge.specs.declared.merge.Sources.{Sources}
 use Rattle.merge.specs.declared.merge.Merge.{Merge}
 use Rattle.merge.specs.declared.merge.Counted.{Counted}
@@ -26,8 +27,8 @@ use Rattle.layers.specs.declared.answer.RowsAnswer.the-variants as A
 use Rattle.rows.specs.declared.listing.Entry.{Entry}
 use Rattle.rows.specs.declared.listing.Plan.{Plan}
 
-pub no-rows : {all : Sources} {a : RowsAnswer} → NoSources all
-    → NoRows a (record { merge = record { all = all; more = false; start = 0; «length» = 0; inode = 0 }; answer = a })
+pub no-rows : {all : Sources} {v : Part} {a : RowsAnswer} → NoSources all
+    → NoRows a (record { merge = record { all = all; more = false; start = 0; «length» = 0; inode = 0; value = v }; answer = a })
 no-rows n = record { answers = refl; none-left = λ img. refl; ready = λ img. record { whole = n .whole img; ascend = rw (n .none-yet) tt } }
 
 pub advanced : {img : List ℕ} {p : Plan} {m : Merge} → Settles img (p .merge .all) m → Advances img p (record { merge = m; answer = p .answer })

@@ -17,14 +17,13 @@ use Rattle.nodes.specs.declared.node.Node.{Node}
 use Rattle.nodes.specs.declared.node.NodeKind.{NodeKind}
 use Rattle.nodes.specs.declared.node.NodeKind.the-variants as K
 use Rattle.nodes.specs.declared.option.OptionPart.{OptionPart}
-use Rattle.nodes.specs.declared.option.OptionPart.the-variants as P
 use Rattle.nodes.specs.Deltas.{attrOf}
 use Rattle.rules.specs.Starts.{Placed}
 use Rattle.rules.specs.PlacedReads.{lookPlaced, placedEntries, placedValues}
 use Rattle.rules.specs.ReadCalls.{Row, rowOf}
 use Rattle.layers.specs.Stacks.{recordsIn, nodeIn}
 use Rattle.merge.specs.Sources.{Decided, listRows}
-use Rattle.merge.specs.Merges.{sourcesOf, Whole, Ready, decidedRows}
+use Rattle.merge.specs.Merges.{listsIf, Ready, decidedRows}
 use Rattle.rows.specs.declared.listing.Listing.{Listing}
 use Rattle.rows.specs.declared.listing.Listing.the-variants as L
 use Rattle.layers.specs.declared.stack.OptionNode.{OptionNode}
@@ -56,8 +55,7 @@ module _ (img : List ℕ) where
 
   -- "the first delta naming it decides (set or removed)"
   abbrev pub alterLists : OptionPart → List (List Decided)
-  alterLists (P.Some p) = listRows img U.Change (p .start) ∷ []
-  alterLists P.None = []
+  alterLists o = listsIf img U.Change o
 
   abbrev pub deltaLists : Listing → NodeDelta → List (List Decided)
   deltaLists L.Entries n = changeLists n
@@ -84,12 +82,6 @@ module _ (img : List ℕ) where
   abbrev pub baseLists : Listing → OptionNode → List (List Decided)
   baseLists l (O.Some n) = nodeLists l n
   baseLists l O.None = []
-
--- sources more, beneath the others
-pub record Pushes (img : List ℕ) (all : Sources) (lists : List (List Decided)) (r : Sources) : Type 0 where
-  pub are : sourcesOf img r ≡ sourcesOf img all ++ lists
-  pub more : r .count ≡ all .count + length lists
-  pub whole : Whole img r
 
 -- the sources decide what the listing of the stack shows
 pub record Gathers (img : List ℕ) (s : InodeLayerStack) (l : Listing) (r : Sources) : Type 0 where

@@ -2,12 +2,10 @@
 // the rows that they decide.
 ghost use Prim.Native.Nat.{_<_};
 ghost use mathlib.Core.Path.{_≡_};
-ghost use mathlib.Core.List.{[], _∷_};
 ghost use Rattle.nodes.specs.Deltas.{attrOf};
 ghost use Rattle.layers.specs.Stacks.{Stacked, recordsIn, nodeIn};
-ghost use Rattle.merge.specs.Sources.{listRows};
-ghost use Rattle.merge.specs.Merges.{Whole, Ready};
-ghost use Rattle.rows.specs.Listings.{Pushes, Gathers, changeLists, alterLists, deltaLists, recordLists, isTombstone, entryLists, nodeLists, baseLists, rowsListed};
+ghost use Rattle.merge.specs.Merges.{Whole, Pushes, Ready};
+ghost use Rattle.rows.specs.Listings.{Gathers, changeLists, deltaLists, recordLists, isTombstone, entryLists, nodeLists, baseLists, rowsListed};
 ghost use Rattle.rows.specs.Plans.{NoRows, Plans, Fits, Advances, Filled, isDirectory, isListed, listCall, roomFor, planCount, planRow, planAnswer};
 ghost use Rattle.rules.specs.Initial.{usual};
 ghost use Rattle.rules.specs.ReadCalls.{listDirectory, listXattrs};
@@ -29,8 +27,11 @@ use merge::merge::Merge;
 use merge::merge::Sources;
 use merge::merge::count_rows;
 use merge::merge::no_sources;
+use merge::merge::push_list;
+use merge::merge::push_list_if;
 use merge::merge::push_source;
 use merge::merge::settle;
+use merge::source::no_value;
 use merge::source::source_at;
 use nodes::delta::EntryDelta;
 use nodes::delta::NodeDelta;
@@ -38,19 +39,11 @@ use nodes::delta::attr_delta;
 use nodes::node::Node;
 use nodes::node::NodeKind;
 use nodes::option::OptionPart;
-use nodes::part::Part;
 
 // The names of a directory's entries, or those of the attributes.
 pub enum Listing {
     Entries,
     Attributes,
-}
-
-fn push_list(img: &[u8], all: Sources, list: Part, what: Under) -> Sources
-    requires { ⌜ Whole (now img) all × (all .count < 35) ⌝ }
-    ensures { λ r. ⌜ Pushes (now (img .entry)) all (listRows (now (img .entry)) what (list .start) ∷ []) r ⌝ }
-{
-    push_source(all, source_at(img, list.start, what))
 }
 
 // What a directory delta adds is over what it removes.
@@ -76,23 +69,13 @@ fn changes_of(delta: NodeDelta) -> OptionPart
     attr.xattrs
 }
 
-fn push_changes(img: &[u8], all: Sources, changes: OptionPart) -> Sources
-    requires { ⌜ Whole (now img) all × (all .count < 35) ⌝ }
-    ensures { λ r. ⌜ Pushes (now (img .entry)) all (alterLists (now (img .entry)) changes) r ⌝ }
-{
-    match changes {
-        OptionPart::Some(list) => push_list(img, all, list, Under::Change),
-        OptionPart::None => all,
-    }
-}
-
 fn push_delta(img: &[u8], all: Sources, delta: NodeDelta, listing: Listing) -> Sources
     requires { ⌜ Whole (now img) all × (all .count < 34) ⌝ }
     ensures { λ r. ⌜ Pushes (now (img .entry)) all (deltaLists (now (img .entry)) listing delta) r ⌝ }
 {
     match listing {
         Listing::Entries => push_change(img, all, delta),
-        Listing::Attributes => push_changes(img, all, changes_of(delta)),
+        Listing::Attributes => push_list_if(img, all, changes_of(delta), Under::Change),
     }
 }
 
@@ -191,6 +174,7 @@ fn no_rows(answer: RowsAnswer) -> Plan
             start: 0,
             length: 0,
             inode: 0,
+            value: no_value(),
         },
         answer,
     }

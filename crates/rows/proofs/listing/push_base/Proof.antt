@@ -1,4 +1,4 @@
-use Rattle.rows.proofs.Gathers.{push-none}
+use Rattle.merge.proofs.Merging.{push-none}
 use borrow.Author.Needs.{needs}
 use Rattle.rows.proofs.listing.push_base.Statement.{statement}
 use Rattle.rows.proofs.listing.push_base.Tie as tie

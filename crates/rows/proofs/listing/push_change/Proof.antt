@@ -1,6 +1,6 @@
 use native.Mathlib.Omega.{arith}
 use lib.ListN.{length-set}
-use Rattle.rows.proofs.Gathers.{push-none, push-two}
+use Rattle.merge.proofs.Merging.{push-none, push-two}
 use Rattle.rows.proofs.Others.{other-lists}
 use borrow.Author.Needs.{needs}
 use Rattle.rows.proofs.listing.push_change.Statement.{statement}

@@ -5,7 +5,7 @@ use Rattle.rows.proofs.listing.push_delta.Reads as reads
 use Rattle.rows.proofs.listing.push_delta.Lts as lts
 use Rattle.rows.proofs.listing.changes_of.Reads as changes-of-reads
 use Rattle.rows.proofs.listing.push_change.Reads as push-change-reads
-use Rattle.rows.proofs.listing.push_changes.Reads as push-changes-reads
+use Rattle.merge.proofs.merge.push_list_if.Reads as push-list-if-reads
 
 enum-told : tie.Need-enum-told
 enum-told c = search needs
@@ -19,14 +19,14 @@ enum-told-2 c = search needs
 changes-of-requires : tie.Need-changes-of-requires
 changes-of-requires c κs = search needs
 
-push-changes-requires : tie.Need-push-changes-requires
-push-changes-requires c κs = search needs
+push-list-if-requires : tie.Need-push-list-if-requires
+push-list-if-requires c κs = search needs
 
 returns : tie.Need-returns
 returns c = rw (c .before .enum-told .given .1) (c .push-change .ensures)
 
 returns-2 : tie.Need-returns-2
-returns-2 c = rw (c .before .before .enum-told2 .given .1, ← (c .before .changes-of .ensures)) (c .push-changes .ensures)
+returns-2 c = rw (c .before .before .enum-told2 .given .1, ← (c .before .changes-of .ensures)) (c .push-list-if .ensures)
 
 pub push-delta-spec : {M : Type 1} → statement M
 push-delta-spec =
@@ -36,6 +36,6 @@ push-delta-spec =
     push-change-requires
     enum-told-2
     changes-of-requires
-    push-changes-requires
+    push-list-if-requires
     returns
     returns-2)

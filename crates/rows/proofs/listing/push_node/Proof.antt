@@ -4,7 +4,7 @@ use Rattle.rows.proofs.listing.push_node.Tie as tie
 use Rattle.rows.proofs.listing.push_node.Reads as reads
 use Rattle.rows.proofs.listing.push_node.Lts as lts
 use Rattle.rows.proofs.listing.push_entries.Reads as push-entries-reads
-use Rattle.rows.proofs.listing.push_list.Reads as push-list-reads
+use Rattle.merge.proofs.merge.push_list.Reads as push-list-reads
 
 enum-told : tie.Need-enum-told
 enum-told c = search needs
