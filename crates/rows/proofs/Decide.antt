@@ -21,53 +21,17 @@ use Rattle.rules.proofs.MapValues.{mapRow, mapValues, map-rows, get-map, map-em
 use Rattle.rules.proofs.Forgotten.{forgotten, starts-forgotten}
 use Rattle.rows.specs.declared.listing.Listing.{Listing}
 use Rattle.rows.specs.declared.listing.Listing.the-variants as L
+use Rattle.image.specs.declared.batch.InodeLayerStack.{InodeLayerStack}
+use Rattle.gather.specs.declared.gather.Lists.the-variants as G
+use Rattle.gather.specs.Gathers.{removedAt, bodyPile, nodePile, changePile, alterPile, deltaPile, recordPile, pileOf, Gathers}
+use Rattle.layers.specs.Stacks.{recordsIn, nodeIn}
+use Rattle.merge.specs.declared.merge.Sources.{Sources}
 use Rattle.merge.specs.Pile.{merged, itself, decisions}
-use Rattle.merge.specs.Sources.{Given, decided}
-use Rattle.merge.specs.Merges.{plainRow}
-use Rattle.rows.specs.Listings.{rowsListed}
+use Rattle.merge.specs.Sources.{Given, Decided, decided}
+use Rattle.merge.specs.Merges.{plainRow, decidedRows}
+use Rattle.rows.specs.Listings.{listsOf, rowsListed}
 use Rattle.merge.proofs.Piles.{pile-merged}
 use Rattle.merge.proofs.Lists.{Deciding, pileRows, sourceOf}
-
--- ---- the sources of a stack, the topmost first
-
--- the removed names stand after the added entries
-abbrev pub removedAt : ℕ → Fields → Option ℕ → Entries → ℕ
-removedAt p f parent added = addedAt p f parent + length (entries .write added)
-
-abbrev pub bodyPile : ℕ → Meta → Body → List Deciding
-bodyPile p m (directory parent es) = sourceOf U.Inode (entriesAt p m parent) es ∷ []
-bodyPile p m (file size) = []
-bodyPile p m (symlink target) = []
-bodyPile p m (special device) = []
-
-abbrev pub nodePile : Listing → Option (Placed Node) → List Deciding
-nodePile l none = []
-nodePile L.Entries (some n) = bodyPile (n .place) (n .held .meta) (n .held .body)
-nodePile L.Attributes (some n) = sourceOf U.Value (attributesAt (n .place) (n .held .meta)) (n .held .meta .attributes) ∷ []
-
--- "a directory delta removes then adds, other kinds do nothing"
-abbrev pub changePile : ℕ → Fields → Change → List Deciding
-changePile p f (directory parent added removed) = sourceOf U.Inode (addedAt p f parent) added ∷ (sourceOf U.Nothing (removedAt p f parent added) removed ∷ [])
-changePile p f (file n) = []
-changePile p f (symlink t) = []
-changePile p f (special s device) = []
-
-abbrev pub alterPile : ℕ → Fields → Option Changes → List Deciding
-alterPile p f none = []
-alterPile p f (some cs) = sourceOf U.Change (changesAt p f cs) cs ∷ []
-
-abbrev pub deltaPile : Listing → ℕ → Delta → List Deciding
-deltaPile L.Entries p d = changePile p (d .fields) (d .change)
-deltaPile L.Attributes p d = alterPile p (d .fields) (d .fields .attributes)
-
--- "tombstone clears"
-abbrev pub recordPile : Listing → ℕ → Record → List Deciding → List Deciding
-recordPile l p tombstone below = []
-recordPile l p (delta d) below = deltaPile l p d ++ below
-
-abbrev pub pileOf : Listing → List (Placed Record) → Option (Placed Node) → List Deciding
-pileOf l [] b = nodePile l b
-pileOf l (r ∷ rs) b = recordPile l (r .place) (r .held) (pileOf l rs b)
 
 -- ---- what they decide
 
@@ -132,16 +96,16 @@ change-decides p f (file n) below es e = e
 change-decides p f (symlink t) below es e = e
 change-decides p f (special s device) below es e = e
 
-entries-decide : (rs : List (Placed Record)) (b : Option (Placed Node)) → merges (pileOf L.Entries rs b) ≡ mapValues byBytes inoded (lookPlaced placedEntries rs b)
+entries-decide : (rs : List (Placed Record)) (b : Option (Placed Node)) → merges (pileOf G.Entries rs b) ≡ mapValues byBytes inoded (lookPlaced placedEntries rs b)
 unfolding lookPlaced merged
 entries-decide [] none = sym (map-empty byBytes inoded)
 entries-decide [] (some n) = body-decides (n .place) (n .held .meta) (n .held .body)
 entries-decide (r ∷ rs) b = go (r .held) (entries-decide rs b)
   where
-    go : (h : Record) → merges (pileOf L.Entries rs b) ≡ mapValues byBytes inoded (lookPlaced placedEntries rs b)
-        → merges (recordPile L.Entries (r .place) h (pileOf L.Entries rs b)) ≡ mapValues byBytes inoded (recordStarts (r .place) h (lookPlaced placedEntries rs b))
+    go : (h : Record) → merges (pileOf G.Entries rs b) ≡ mapValues byBytes inoded (lookPlaced placedEntries rs b)
+        → merges (recordPile G.Entries (r .place) h (pileOf G.Entries rs b)) ≡ mapValues byBytes inoded (recordStarts (r .place) h (lookPlaced placedEntries rs b))
     go tombstone ih = sym (map-empty byBytes inoded)
-    go (delta d) ih = change-decides (r .place) (d .fields) (d .change) (pileOf L.Entries rs b) (lookPlaced placedEntries rs b) ih
+    go (delta d) ih = change-decides (r .place) (d .fields) (d .change) (pileOf G.Entries rs b) (lookPlaced placedEntries rs b) ih
 
 -- ---- attributes
 
@@ -160,16 +124,16 @@ alter-decides p f none below vs e = e
 alter-decides p f (some cs) below vs e =
     rw e (sym (map-merge byBytes zeroed (decided U.Change) (λ name c old. setStart c) (itself byBytes) (λ k c o. set-zeroed (c .0) (c .1)) (starts (maybe value) (changesAt p f cs) cs) vs))
 
-values-decide : (rs : List (Placed Record)) (b : Option (Placed Node)) → merges (pileOf L.Attributes rs b) ≡ mapValues byBytes zeroed (lookPlaced placedValues rs b)
+values-decide : (rs : List (Placed Record)) (b : Option (Placed Node)) → merges (pileOf G.Attributes rs b) ≡ mapValues byBytes zeroed (lookPlaced placedValues rs b)
 unfolding lookPlaced merged
 values-decide [] none = sym (map-empty byBytes zeroed)
 values-decide [] (some n) = merge-alone zeroed (starts value (attributesAt (n .place) (n .held .meta)) (n .held .meta .attributes))
 values-decide (r ∷ rs) b = go (r .held) (values-decide rs b)
   where
-    go : (h : Record) → merges (pileOf L.Attributes rs b) ≡ mapValues byBytes zeroed (lookPlaced placedValues rs b)
-        → merges (recordPile L.Attributes (r .place) h (pileOf L.Attributes rs b)) ≡ mapValues byBytes zeroed (recordValueStarts (r .place) h (lookPlaced placedValues rs b))
+    go : (h : Record) → merges (pileOf G.Attributes rs b) ≡ mapValues byBytes zeroed (lookPlaced placedValues rs b)
+        → merges (recordPile G.Attributes (r .place) h (pileOf G.Attributes rs b)) ≡ mapValues byBytes zeroed (recordValueStarts (r .place) h (lookPlaced placedValues rs b))
     go tombstone ih = sym (map-empty byBytes zeroed)
-    go (delta d) ih = alter-decides (r .place) (d .fields) (d .fields .attributes) (pileOf L.Attributes rs b) (lookPlaced placedValues rs b) ih
+    go (delta d) ih = alter-decides (r .place) (d .fields) (d .fields .attributes) (pileOf G.Attributes rs b) (lookPlaced placedValues rs b) ih
 
 -- ---- the rows
 
@@ -182,8 +146,12 @@ rows-zeroed [] = refl
 rows-zeroed (e ∷ l) = rw (rows-zeroed l)
 
 -- What the sources of a stack decide is what its listing shows.
-pub pile-shows : (l : Listing) (rs : List (Placed Record)) (b : Option (Placed Node)) → map plainRow (decisions byBytes (pileRows (pileOf l rs b))) ≡ rowsListed l rs b
+pub pile-shows : (l : Listing) (rs : List (Placed Record)) (b : Option (Placed Node)) → map plainRow (decisions byBytes (pileRows (pileOf (listsOf l) rs b))) ≡ rowsListed l rs b
 pile-shows L.Entries rs b =
-    rw (pile-merged byBytes (itself byBytes) (pileOf L.Entries rs b), entries-decide rs b, map-rows byBytes inoded (lookPlaced placedEntries rs b)) (rows-inoded (lookPlaced placedEntries rs b .rows))
+    rw (pile-merged byBytes (itself byBytes) (pileOf G.Entries rs b), entries-decide rs b, map-rows byBytes inoded (lookPlaced placedEntries rs b)) (rows-inoded (lookPlaced placedEntries rs b .rows))
 pile-shows L.Attributes rs b =
-    rw (pile-merged byBytes (itself byBytes) (pileOf L.Attributes rs b), values-decide rs b, map-rows byBytes zeroed (lookPlaced placedValues rs b)) (rows-zeroed (lookPlaced placedValues rs b .rows))
+    rw (pile-merged byBytes (itself byBytes) (pileOf G.Attributes rs b), values-decide rs b, map-rows byBytes zeroed (lookPlaced placedValues rs b)) (rows-zeroed (lookPlaced placedValues rs b .rows))
+
+module _ {img : List ℕ} {s : InodeLayerStack} (l : Listing) {r : Sources} (g : Gathers img s (listsOf l) r) where
+  pub gathered-rows : decidedRows img r ≡ rowsListed l (recordsIn img s) (nodeIn img s)
+  gathered-rows = ap (λ (ss : List (List Decided)). map plainRow (decisions byBytes ss)) (g .are) ∙ pile-shows l (recordsIn img s) (nodeIn img s)

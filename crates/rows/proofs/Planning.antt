@@ -14,7 +14,9 @@ use Rattle.image.specs.declared.batch.InodeLayerStack.{InodeLayerStack}
 use Rattle.rules.specs.ReadCalls.{Row}
 use Rattle.layers.specs.Stacks.{recordsIn, nodeIn}
 use Rattle.merge.specs.Merges.{NoSources, Ready, decidedRows, rowOfMerge, rowsIfMore, mergeRows, Settles, countOf}
-use Rattle.rows.specs.Listings.{rowsListed, Gathers}
+use Rattle.gather.specs.Gathers.{Gathers}
+use Rattle.rows.specs.Listings.{listsOf, rowsListed}
+use Rattle.rows.proofs.Decide.{gathered-rows}
 use Rattle.rows.specs.Plans.{entryOf, roomFor, answerOf, NoRows, Fits, Plans, countIn, planCount, planRow, planAnswer, Advances, Filled}
 use Rattle.rows.specs.declared.listing.Listing.{Listing}
 use Rattle.nodes.specs.declared.part.Part.{Part}
@@ -54,9 +56,9 @@ counted-many room count = go (ltb room count) refl
     go true h e = h
     go false h e = absurd (let z : _≡_ {A = ℕ} 0 1 = cc in omega arith)
 
-module _ {img : List ℕ} {s : InodeLayerStack} {l : Listing} {all : Sources} (g : Gathers img s l all) {m : Merge} (t : Settles img all m) where
+module _ {img : List ℕ} {s : InodeLayerStack} (l : Listing) {all : Sources} (g : Gathers img s (listsOf l) all) {m : Merge} (t : Settles img all m) where
   same-rows : mergeRows img m ≡ rowsListed l (recordsIn img s) (nodeIn img s)
-  same-rows = sym (t .rows) ∙ g .rows
+  same-rows = sym (t .rows) ∙ gathered-rows l g
 
   pub planned : {room : ℕ} {c : Counted} → c ≡ countOf (length (mergeRows img m)) room → {n : ℕ} → c ≡ C.Rows n → Plans img (roomFor room (rowsListed l (recordsIn img s) (nodeIn img s))) room (record { merge = m; answer = A.Rows n })
   planned {room} k {n} e =
