@@ -49,7 +49,9 @@ use Rattle.layers.specs.declared.stack.OptionNode.{OptionNode}
 use Rattle.layers.specs.declared.stack.OptionNode.the-variants as O
 use Rattle.merge.specs.declared.merge.Sources.{Sources}
 use Rattle.merge.proofs.Lists.{pileRows, rows-append, sourceOf, list-are, pile-ascends}
-use Rattle.gather.specs.Gathers.{bodyPile, nodePile, changePile, alterPile, deltaPile, recordPile, pileOf, Gathers}
+use Rattle.wire.specs.Lists.{Every}
+use Rattle.gather.proofs.Shorts.{every-append, delta-short, base-short}
+use Rattle.gather.specs.Gathers.{Short, bodyPile, nodePile, changePile, alterPile, deltaPile, recordPile, pileOf, Gathers}
 use Rattle.attrs.specs.Meant.{kindMeant}
 use Rattle.layers.proofs.Walks.{records-more}
 
@@ -175,18 +177,19 @@ module _ (img : List ℕ) (s : InodeLayerStack) (l : Lists) where
     pub few : all .count + 2 * i ≤ 2 * s .count
     pub whole : Whole img all
     pub are : sourcesOf img all ++ pileUnder i ≡ pileUnder (s .count)
+    pub short : Every Short (sourcesOf img all)
 
-gathered : {img : List ℕ} {s : InodeLayerStack} {l : Lists} {all : Sources} → Whole img all → sourcesOf img all ≡ pileUnder img s l (s .count) → Gathers img s l all
-gathered w e = record { are = e; whole = w }
+gathered : {img : List ℕ} {s : InodeLayerStack} {l : Lists} {all : Sources} → Whole img all → sourcesOf img all ≡ pileUnder img s l (s .count) → Every Short (sourcesOf img all) → Gathers img s l all
+gathered w e h = record { are = e; whole = w; short = h }
 
 module _ {img : List ℕ} {s : InodeLayerStack} {l : Lists} {all : Sources} where
   pub gathering-none : NoSources all → Gathering img s l all (s .count)
-  gathering-none n = record { low = omega arith; few = omega (arith, n .none-yet); whole = n .whole img; are = rw (n .none-yet) }
+  gathering-none n = record { low = omega arith; few = omega (arith, n .none-yet); whole = n .whole img; are = rw (n .none-yet); short = rw (n .none-yet) tt }
 
   end-at : Stacked img s → (j : ℕ) → j < s .count → Gathering img s l all (j + 1) → (e : EntryDelta) → RecordIs img (getD (s .deltas) j 0) e → isTombstone e ≡ true → Gathers img s l all
   unfolding rowsOf
   end-at h j k g (E.Node n) r t = absurd (let z : _≡_ {A = ℕ} 0 1 = cc in omega arith)
-  end-at h j k g E.Tombstone r t = gathered (g .whole) (sym (append-nil (sourcesOf img all)) ∙ (rw (records-more h j k r) at (g .are)))
+  end-at h j k g E.Tombstone r t = gathered (g .whole) (sym (append-nil (sourcesOf img all)) ∙ (rw (records-more h j k r) at (g .are))) (g .short)
 
   -- i is above some number
   above : {i : ℕ} → 0 < i → Gathering img s l all i → Gathering img s l all (i - 1 + 1)
@@ -203,6 +206,7 @@ module _ {img : List ℕ} {s : InodeLayerStack} {l : Lists} {all : Sources} wher
     few = omega (arith, g .few, p .more, lists-few img l n);
     whole = p .whole;
     are = rw (p .are, append-assoc, delta-lists img (getD (s .deltas) j 0) l n r, ← rows-append) (rw (records-more h j k r) at (g .are));
+    short = rw (p .are) (every-append Short (sourcesOf img all) (deltaLists img l n) (g .short) (delta-short img l n));
   }
 
   pub gathering-more : Stacked img s → {i : ℕ} → 0 < i → Gathering img s l all i → {e : EntryDelta} → RecordIs img (getD (s .deltas) (i - 1) 0) e → isTombstone e ≡ false
@@ -214,7 +218,7 @@ module _ {img : List ℕ} {s : InodeLayerStack} {l : Lists} {all : Sources} wher
   gathering-all {i} h g o b p =
       let z : i ≡ 0 = omega arith in
       let e : sourcesOf img all ++ pileUnder img s l 0 ≡ pileUnder img s l (s .count) = rw z at (g .are) in
-      gathered (p .whole) (p .are ∙ rw (base-lists img l (placeOf (s .base)) o b) e)
+      gathered (p .whole) (p .are ∙ rw (base-lists img l (placeOf (s .base)) o b) e) (rw (p .are) (every-append Short (sourcesOf img all) (baseLists img l o) (g .short) (base-short img l o)))
 
 -- ---- what is gathered can be merged
 

@@ -4,7 +4,7 @@ use mathlib.Core.Path.{_≡_}
 use mathlib.Core.Option.{Option, none, some}
 use mathlib.Core.Bool.{cond}
 use mathlib.Core.List.{List, [], _∷_, _++_}
-use Prim.Native.Nat.{ℕ, _+_}
+use Prim.Native.Nat.{ℕ, _+_, _≤_}
 use lib.ListN.{length}
 use Rattle.image.specs.Meaning.{Entries, Body, Meta, Node, Changes, Fields, Change, Delta, Record, directory, file, symlink, special, tombstone, delta, changedKind}
 use Rattle.image.specs.FieldLayout.{entries}
@@ -13,6 +13,8 @@ use Rattle.image.specs.declared.batch.InodeLayerStack.{InodeLayerStack}
 use Rattle.rules.specs.Starts.{Placed, attributesAt, entriesAt, changesAt, addedAt}
 use Rattle.rules.specs.Fold.{sameKind}
 use Rattle.attrs.specs.Meant.{kindMeant}
+use Rattle.wire.specs.Lists.{Every, lastCount}
+use Rattle.merge.specs.Sources.{Decided}
 use Rattle.merge.specs.Merges.{sourcesOf, Whole}
 use Rattle.merge.proofs.Lists.{Deciding, pileRows, sourceOf}
 use Rattle.merge.specs.declared.merge.Sources.{Sources}
@@ -64,7 +66,12 @@ abbrev pub pileOf : Lists → List (Placed Record) → Option (Placed Node) → 
 pileOf l [] b = nodePile l b
 pileOf l (r ∷ rs) b = recordPile l (r .place) (r .held) (pileOf l rs b)
 
+-- a list has no more rows than a count can say
+abbrev pub Short : List Decided → Type 0
+Short l = length l ≤ lastCount
+
 -- the sources are those of the stack
 pub record Gathers (img : List ℕ) (s : InodeLayerStack) (l : Lists) (r : Sources) : Type 0 where
   pub are : sourcesOf img r ≡ pileRows (pileOf l (recordsIn img s) (nodeIn img s))
   pub whole : Whole img r
+  pub short : Every Short (sourcesOf img r)
