@@ -1,5 +1,5 @@
 #!/bin/sh
-# Builds the oracle, makes reads.in and reads.out again, and runs the tests.
+# Builds the oracle, makes reads.in, reads.out, changes.in and changes.out again, and runs the tests.
 # $1, or APPENDFS_SRC: the folder that holds the published sources, src/node.rs and the rest.
 # Needs cargo and rustc (1.90 or later) and sha256sum; no registry, no network.
 set -eu
@@ -8,4 +8,5 @@ APPENDFS_SRC=$(cd "$source" && pwd)
 export APPENDFS_SRC
 cd "$(dirname "$0")"
 cargo run --offline --release --bin reads -- .
+cargo run --offline --release --bin changes -- .
 cargo test --offline --release

@@ -1,4 +1,5 @@
 // One line of the list, and its answer.
+use crate::changes;
 use crate::line::bytes;
 use crate::line::decimal;
 use crate::line::same;
@@ -39,6 +40,7 @@ pub fn answer(line: &[u8]) {
         image(line);
     }
     reads::answer(line);
+    changes::answer(line);
     show::text(b"\n");
 }
 

@@ -18,7 +18,16 @@
 //     parent INODE BYTES           the inode
 //     xattr INODE NAME BYTES       the value
 //     names INODE ROWS BYTES       how many names of extended attributes, and each
+//
+// The changes, whose new images are the published Rust's too. ROOM is the length of the lent target; SECONDS has its sign before it.
+//
+//     insert INODE DELTA ROOM BYTES                    tombstone INODE ROOM BYTES
+//     add INODE NAME CHILD SECONDS NANOS ROOM BYTES    remove INODE NAME SECONDS NANOS ROOM BYTES
+//     setparent INODE PARENT ROOM BYTES                freeze DEPTH BYTES OPERATIONS SECONDS NANOS ROOM BYTES
+//     pop ID ROOM BYTES                                note BYTES ROOM BYTES
+//     request REASON ROOM BYTES
 mod answer;
+mod changes;
 mod lend;
 mod line;
 mod reads;

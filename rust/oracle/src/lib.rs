@@ -3,13 +3,15 @@
 //! - [`image`]: the layout, read and written by document 01 alone.
 //! - [`store`]: an image as a real `FsInner`, the real calls, and back.
 //! - [`calls`]: the same calls with document 01's refusals before them.
-//! - [`lines`]: reads as lines of text, with their answers.
+//! - [`lines`]: calls as lines of text, with their answers.
 //! - [`builders`]: images put together by hand.
-//! - [`random`]: images and reads from a seed.
+//! - [`random`]: images and calls from a seed.
 //! - [`list`]: the fixed list of reads.
+//! - [`changes`]: the fixed list of changes.
 
 pub mod builders;
 pub mod calls;
+pub mod changes;
 pub mod image;
 pub mod lines;
 pub mod list;

@@ -1,4 +1,4 @@
-//! The reads as lines of text, and their answers, as crates/vectors reads and writes them.
+//! The calls as lines of text, and their answers, as crates/vectors reads and writes them.
 //!
 //! Words have one blank between them. Texts and images are hexadecimal, `-` where empty.
 //!
@@ -16,6 +16,21 @@
 //!
 //! PERM is octal, a time is SECONDS.NANOS, both without padding; all else is decimal. Each call may be
 //! `refused N` as well.
+//!
+//! The changes that the port has so far; ROOM is the length of the lent target, SECONDS has its sign before it. Each
+//! answers `image HEX`.
+//!
+//! ```text
+//! insert INODE DELTA ROOM IMAGE
+//! tombstone INODE ROOM IMAGE
+//! add INODE NAME CHILD SECONDS NANOS ROOM IMAGE
+//! remove INODE NAME SECONDS NANOS ROOM IMAGE
+//! setparent INODE PARENT ROOM IMAGE
+//! freeze DEPTH BYTES OPERATIONS SECONDS NANOS ROOM IMAGE
+//! pop ID ROOM IMAGE
+//! note BYTES ROOM IMAGE
+//! request REASON ROOM IMAGE
+//! ```
 
 use crate::calls::{Answer, Call, run};
 use crate::image::Time;
@@ -49,9 +64,27 @@ pub fn line(call: &Call, image: &[u8]) -> Option<String> {
     Some(format!("{words} {}", hex(image)))
 }
 
-/// The answer of a read; `None` for one that no line has.
-pub fn answer(call: &Call, image: &[u8]) -> Option<String> {
-    Some(match run(image, call, 0) {
+/// The line of a change, with the room of its target; `None` for a call that no line has.
+pub fn change_line(call: &Call, room: usize, image: &[u8]) -> Option<String> {
+    let time = |t: &Time| format!("{:+} {}", t.seconds, t.nanos);
+    let words = match call {
+        Call::Insert { inode, delta } => format!("insert {inode} {}", hex(delta)),
+        Call::Tombstone { inode } => format!("tombstone {inode}"),
+        Call::Add { parent, name, child, now } => format!("add {parent} {} {child} {}", hex(name), time(now)),
+        Call::Remove { parent, name, now } => format!("remove {parent} {} {}", hex(name), time(now)),
+        Call::SetParent { inode, parent } => format!("setparent {inode} {parent}"),
+        Call::Freeze { depth, bytes, operations, now } => format!("freeze {depth} {bytes} {operations} {}", time(now)),
+        Call::Pop { id } => format!("pop {id}"),
+        Call::Note { bytes } => format!("note {bytes}"),
+        Call::Request { reason } => format!("request {reason}"),
+        _ => return None,
+    };
+    Some(format!("{words} {room} {}", hex(image)))
+}
+
+/// The answer of a call; `None` for one that no line has.
+pub fn answer(call: &Call, room: usize, image: &[u8]) -> Option<String> {
+    Some(match run(image, call, room) {
         Answer::Refused(number) => format!("refused {number}"),
         Answer::None => "none".to_string(),
         Answer::Truth(true) => "yes".to_string(),
@@ -68,7 +101,8 @@ pub fn answer(call: &Call, image: &[u8]) -> Option<String> {
             write!(s, " {}", hex(name)).unwrap();
             s
         }),
-        Answer::Outside | Answer::Image(_) => return None,
+        Answer::Image(new) => format!("image {}", hex(&new)),
+        Answer::Outside => return None,
     })
 }
 

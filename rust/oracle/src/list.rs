@@ -28,7 +28,7 @@ impl List {
 
     fn ask(&mut self, image: &[u8], call: Call) {
         let line = line(&call, image).expect("a read");
-        self.answers.push(format!("{line} = {}", answer(&call, image).expect("texts are UTF-8")));
+        self.answers.push(format!("{line} = {}", answer(&call, 0, image).expect("texts are UTF-8")));
         self.reads.push(line);
     }
 
@@ -96,7 +96,7 @@ pub fn list() -> List {
 fn ask_some(list: &mut List, random: &mut Random, image: fn(&mut Random) -> Vec<u8>) {
     let image = std::iter::repeat_with(|| image(random)).find(|image| image.len() <= 200).expect("a short image");
     for _ in 0..3 {
-        let found = |call: &Call| answer(call, &image).is_some_and(|answer| answer != "none");
+        let found = |call: &Call| answer(call, 0, &image).is_some_and(|answer| answer != "none");
         let tries = random.reads(10);
         let call = tries.iter().find(|call| found(call)).unwrap_or(&tries[0]);
         list.ask(&image, call.clone());

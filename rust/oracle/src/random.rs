@@ -233,4 +233,45 @@ impl Random {
             _ => Call::Names { inode, rows: self.pick(&[0, 1, 8, 8, 8, 8]) },
         }
     }
+
+    /// A change with any arguments, the refused ones among them.
+    pub fn change_call(&mut self) -> Call {
+        let inode = 1 + self.below(5);
+        let now = self.any_time();
+        match self.below(9) {
+            0 => Call::Insert { inode, delta: self.any_delta() },
+            1 => Call::Tombstone { inode },
+            2 => Call::Add { parent: inode, name: self.any_name(), child: self.inode(), now },
+            3 => Call::Remove { parent: inode, name: self.any_name(), now },
+            4 => Call::SetParent { inode, parent: self.inode() },
+            5 => {
+                let limit = |r: &mut Self| r.pick(&[u64::MAX, u64::MAX, u64::MAX, 1, 2, 1000]);
+                Call::Freeze { depth: limit(self), bytes: limit(self), operations: limit(self), now }
+            }
+            6 => Call::Pop { id: 1 + self.below(3) },
+            7 => Call::Note { bytes: self.pick(&[0, 1, 127, 1000, u64::from(u32::MAX), u64::MAX]) },
+            _ => Call::Request { reason: self.below(7) },
+        }
+    }
+
+    fn any_name(&mut self) -> Vec<u8> {
+        if self.chance(12) { Vec::new() } else { self.name() }
+    }
+
+    fn any_time(&mut self) -> Time {
+        let time = self.time();
+        if self.chance(12) { Time { nanos: 1_000_000_000, ..time } } else { time }
+    }
+
+    /// A delta, now and then with a byte too many or too few, or a tombstone.
+    fn any_delta(&mut self) -> Vec<u8> {
+        let mut delta = Delta { fields: self.fields(), change: self.change() }.write();
+        match self.below(12) {
+            0 => delta.push(0),
+            1 => drop(delta.pop()),
+            2 => delta = vec![0],
+            _ => {}
+        }
+        delta
+    }
 }

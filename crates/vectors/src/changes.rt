@@ -1,0 +1,150 @@
+// The changes of an image.
+ghost use Prim.Native.Nat.{_≤_};
+use crate::line::bytes;
+use crate::line::decimal;
+use crate::line::same;
+use crate::line::word;
+use crate::show;
+use change::answer::ChangeAnswer;
+use overlay::directory::add_dir_entry;
+use overlay::directory::remove_dir_entry;
+use overlay::directory::update_dir_parent;
+use overlay::live::insert_new_node;
+use overlay::live::tombstone;
+use queue::queue::freeze_live;
+use queue::queue::pop_flushed_batch;
+use queue::queue::record_mutation;
+use queue::queue::request;
+use wire::part::part;
+use wire::time::Time;
+
+enum Call {
+    Insert,
+    Tombstone,
+    Add,
+    Remove,
+    SetParent,
+    Freeze,
+    Pop,
+    Note,
+    Request,
+}
+
+// The answer of a line that asks for a change; of another line nothing.
+pub fn answer(line: &[u8]) {
+    let call = word(line, 0);
+    if same(call, b"insert") {
+        replay(line, Call::Insert, 3);
+    }
+    if same(call, b"tombstone") {
+        replay(line, Call::Tombstone, 2);
+    }
+    if same(call, b"add") {
+        replay(line, Call::Add, 6);
+    }
+    if same(call, b"remove") {
+        replay(line, Call::Remove, 5);
+    }
+    if same(call, b"setparent") {
+        replay(line, Call::SetParent, 3);
+    }
+    if same(call, b"freeze") {
+        replay(line, Call::Freeze, 6);
+    }
+    if same(call, b"pop") {
+        replay(line, Call::Pop, 2);
+    }
+    if same(call, b"note") {
+        replay(line, Call::Note, 2);
+    }
+    if same(call, b"request") {
+        replay(line, Call::Request, 2);
+    }
+}
+
+// At most as long a target as there is to lend.
+fn room_of(word: &[u8]) -> usize
+    ensures { λ r. ⌜ r ≤ 512 ⌝ }
+{
+    let length = decimal(word);
+    if length < 512 {
+        return length as usize;
+    }
+    512
+}
+
+// Lends the image, the second word as bytes, and a target. The room and the image are the last two words.
+fn replay(line: &[u8], call: Call, last: usize)
+    requires { ⌜ last ≤ 6 ⌝ }
+{
+    let mut image = [0u8; 512];
+    let mut given = [0u8; 512];
+    let mut target = [0u8; 512];
+    let length = bytes(word(line, last + 1), &mut image);
+    let count = bytes(word(line, 2), &mut given);
+    let room = room_of(word(line, last));
+    show_change(
+        line,
+        call,
+        part(&image, 0, length),
+        part(&given, 0, count),
+        &mut target[..room],
+    );
+}
+
+fn show_change(line: &[u8], call: Call, img: &[u8], given: &[u8], target: &mut [u8]) {
+    let answer = change(line, call, img, given, target);
+    match answer {
+        ChangeAnswer::Refused(number) => show::refused(number),
+        ChangeAnswer::Length(length) => {
+            show::text(b" = image ");
+            show::word(part(target, 0, length));
+        }
+    }
+}
+
+fn change(line: &[u8], call: Call, img: &[u8], given: &[u8], target: &mut [u8]) -> ChangeAnswer {
+    let first = decimal(word(line, 1));
+    let second = decimal(word(line, 2));
+    let third = decimal(word(line, 3));
+    match call {
+        Call::Insert => insert_new_node(img, first, given, target),
+        Call::Tombstone => tombstone(img, first, target),
+        Call::Add => add_dir_entry(img, first, given, third, moment(line, 4), target),
+        Call::Remove => remove_dir_entry(img, first, given, moment(line, 3), target),
+        Call::SetParent => update_dir_parent(img, first, second, target),
+        Call::Freeze => freeze_live(img, first, second, third, moment(line, 4), target),
+        Call::Pop => pop_flushed_batch(img, first, target),
+        Call::Note => record_mutation(img, first, target),
+        Call::Request => request(img, first, target),
+    }
+}
+
+// Seconds, their sign before them.
+fn seconds(word: &[u8]) -> i64 {
+    let size = decimal(part(word, 1, word.len()));
+    if 0x7FFF_FFFF_FFFF_FFFF < size {
+        return 0;
+    }
+    if same(part(word, 0, 1), b"-") {
+        return -(size as i64);
+    }
+    size as i64
+}
+
+// A time of two words, seconds and nanoseconds.
+fn moment(line: &[u8], at: usize) -> Time
+    requires { ⌜ at ≤ 4 ⌝ }
+{
+    let nanos = decimal(word(line, at + 1));
+    if 0xFFFF_FFFF < nanos {
+        return Time {
+            seconds: 0,
+            nanos: 0,
+        };
+    }
+    Time {
+        seconds: seconds(word(line, at)),
+        nanos: nanos as u32,
+    }
+}
