@@ -1,0 +1,3 @@
+// The base and a run of layers, walked all at once by rising inode.
+pub mod run;
+pub mod walk;
