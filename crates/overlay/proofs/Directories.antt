@@ -50,16 +50,16 @@ use Rattle.rules.specs.Changes.{DirectoryChange, settingParent, onDirectory}
 use Rattle.rules.specs.Queue.{setLive, onLive}
 use Rattle.rules.specs.Outcomes.{result}
 use Rattle.rules.specs.ChangeCalls.{byRules, updateDirParent}
-use Rattle.overlay.specs.Changed.{Changes, ifFits}
-use Rattle.overlay.specs.Sections.{Stands}
-use Rattle.overlay.specs.Cuts.{livedOf, CutsRecords}
-use Rattle.overlay.specs.NewImages.{listAnew, directoryAnew, relived, redirected, newBytes}
+use Rattle.change.specs.Changed.{Changes, ifFits}
+use Rattle.change.specs.Sections.{Stands}
+use Rattle.change.specs.Cuts.{CutsRecords}
+use Rattle.overlay.specs.NewImages.{livedOf, listAnew, directoryAnew, relived, redirected, newBytes}
 use Rattle.overlay.specs.Directories.{bareDelta, directoryOf, keptOf, listOr, IsDirectory, IsOther, Lives, LivesAt, Redirects}
 use Rattle.overlay.specs.Entries.{Respells, stampedOf, renaming, Renames, Naming}
-use Rattle.overlay.specs.declared.answer.ChangeAnswer.{ChangeAnswer}
-use Rattle.overlay.specs.declared.answer.ChangeAnswer.the-variants as A
-use Rattle.overlay.specs.declared.section.Sections.{Sections}
-use Rattle.overlay.specs.declared.cut.Cut.{Cut}
+use Rattle.change.specs.declared.answer.ChangeAnswer.{ChangeAnswer}
+use Rattle.change.specs.declared.answer.ChangeAnswer.the-variants as A
+use Rattle.change.specs.declared.section.Sections.{Sections}
+use Rattle.change.specs.declared.cut.Cut.{Cut}
 use Rattle.overlay.specs.declared.write.Lived.{Lived}
 use Rattle.overlay.specs.declared.write.NewImage.{NewImage}
 use Rattle.overlay.specs.declared.write.NewImage.the-variants as N
@@ -72,7 +72,7 @@ use Rattle.overlay.specs.declared.delta.Own.{Own}
 use Rattle.overlay.specs.declared.delta.Own.the-variants as O
 use Rattle.overlay.specs.declared.delta.Rows.{Rows}
 use Rattle.overlay.specs.declared.delta.Directed.{Directed}
-use Rattle.overlay.proofs.Finishing.{changes-refused, changes-made}
+use Rattle.change.proofs.Finishing.{changes-refused, changes-made}
 use Rattle.overlay.proofs.Living.{is-cut, lived-bytes}
 use Rattle.overlay.proofs.Entries.{get-here}
 

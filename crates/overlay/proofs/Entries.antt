@@ -27,16 +27,15 @@ use Rattle.nodes.specs.Listed.{byName, listAt}
 use Rattle.nodes.specs.declared.part.Part.{Part}
 use Rattle.nodes.specs.declared.option.OptionPart.the-variants as M
 use Rattle.rules.specs.Asks.{badName}
-use Rattle.overlay.specs.Sections.{Spans}
-use Rattle.overlay.specs.Cuts.{three, rowsBelow, rowHere, rowsAbove, rowsBytes, underFirst, countWith, countWithout, CutIs, CutsList}
+use Rattle.change.specs.Sections.{Spans}
+use Rattle.change.specs.Cuts.{three, rowsBelow, rowHere, rowsAbove, rowsBytes, underFirst, countWith, countWithout, CutIs, CutsList}
 use Rattle.overlay.specs.NewImages.{ownBytes, rowsAnew}
 use Rattle.overlay.specs.Entries.{countAfter, rowsOf, Owns, Respells}
-use Rattle.overlay.specs.declared.cut.Cut.{Cut}
+use Rattle.change.specs.declared.cut.Cut.{Cut}
 use Rattle.overlay.specs.declared.delta.Own.{Own}
 use Rattle.overlay.specs.declared.delta.Own.the-variants as O
-use Rattle.overlay.proofs.Sections.{span-part}
-use Rattle.overlay.proofs.Cutting.{insert-cut, chain-rows, rows-append}
-use Rattle.overlay.proofs.Living.{count-cut}
+use Rattle.change.proofs.Sections.{span-part}
+use Rattle.change.proofs.Cutting.{insert-cut, chain-rows, rows-append, count-cut}
 
 -- ---- "3 if a name isn't 1 to 255 bytes"
 
@@ -165,5 +164,5 @@ unfolding empty rowsBelow rowHere rowsAbove rowsBytes
 respelt-empty {u} {img} {k} {own} = record {
   writes = λ short end h o owns.
       let s : Spans img 0 [] 0 = record { is = refl; ends = refl; within = omega arith } in
-      spelt u own (empty byBytes) (record { count = refl; below = s; here = s; above = s; holds = tt }) o owns;
+      spelt u own (empty byBytes) (record { count = refl; below = s; here = s; above = s; holds = tt; stands = tt }) o owns;
 }

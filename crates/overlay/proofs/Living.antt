@@ -44,61 +44,18 @@ use Rattle.rules.specs.Queue.{onLive}
 use Rattle.rules.specs.Outcomes.{result}
 use Rattle.rules.specs.Refusals.{noDelta}
 use Rattle.rules.specs.ChangeCalls.{ifRead, givenRecord, insertNewNode, tombstone as tombstoned}
-use Rattle.overlay.specs.Changed.{Changes, ifFits}
-use Rattle.overlay.specs.Sections.{Stands, tailOf}
-use Rattle.overlay.specs.NewImages.{between, relived}
-use Rattle.overlay.specs.Cuts.{three, rowsBelow, rowHere, rowsAbove, rowsBytes, underFirst, countWith, countWithout, livedOf, CutIs, CutsRecords}
-use Rattle.overlay.specs.declared.answer.ChangeAnswer.{ChangeAnswer}
-use Rattle.overlay.specs.declared.answer.ChangeAnswer.the-variants as A
-use Rattle.overlay.specs.declared.cut.Cut.{Cut}
-use Rattle.overlay.specs.declared.section.Sections.{Sections}
-use Rattle.overlay.proofs.Sections.{span-part, span-both, store-bytes}
-use Rattle.overlay.proofs.Finishing.{changes-refused, changes-made}
-use Rattle.overlay.proofs.Popping.{stands-fits}
-use Rattle.overlay.proofs.Cutting.{insert-cut, chain-rows, rows-append}
-
--- ---- how many records there are
-
-module _ {K A : Type 0} (O : Order K) where
-  cut-length : (k : K) (l : List (K × A)) → length l ≡ length (rowsBelow O k l) + (length (rowHere O k l) + length (rowsAbove O k l))
-  unfolding rowsBelow rowHere rowsAbove
-  cut-length k [] = refl
-  cut-length k (e ∷ l) = go (O .cmp k (e .0)) (cut-length k l)
-    where
-      go : (o : Ordering) → length l ≡ length (rowsBelow O k l) + (length (rowHere O k l) + length (rowsAbove O k l))
-          → suc (length l) ≡ length (three o [] [] (e ∷ rowsBelow O k l)) + (length (three o [] (e ∷ []) (rowHere O k l)) + length (three o (e ∷ l) l (rowsAbove O k l)))
-      go Less h = omega arith
-      go Equal h = omega arith
-      go Greater h = omega (arith, h)
-
-  abbrev oneIf : Option A → ℕ
-  oneIf none = 0
-  oneIf (some a) = 1
-
-  here-length : (k : K) (l : List (K × A)) → length (rowHere O k l) ≡ oneIf (underFirst (rowHere O k l))
-  unfolding rowHere
-  here-length k [] = refl
-  here-length k (e ∷ l) = go (O .cmp k (e .0)) (here-length k l)
-    where
-      go : (o : Ordering) → length (rowHere O k l) ≡ oneIf (underFirst (rowHere O k l))
-          → length (three o [] (e ∷ []) (rowHere O k l)) ≡ oneIf (underFirst (three o [] (e ∷ []) (rowHere O k l)))
-      go Less h = refl
-      go Equal h = refl
-      go Greater h = h
-
-module _ {K A : Type 0} (O : Order K) (key : Codec K) (value : Codec A) {img : List ℕ} {k : K} {to : ℕ} {l : List (K × A)} (r : Cut) (c : CutIs O key value img k l to r) where
-  pub count-cut : (countWith r ≡ length (rowsBelow O k l) + suc (length (rowsAbove O k l))) × (countWithout r ≡ length (rowsBelow O k l) + length (rowsAbove O k l))
-  count-cut = go (r .place) refl (underFirst (rowHere O k l)) refl (c .holds)
-    where
-      long : length l ≡ length (rowsBelow O k l) + (oneIf O (underFirst (rowHere O k l)) + length (rowsAbove O k l))
-      long = cut-length O k l ∙ ap (λ (n : ℕ). length (rowsBelow O k l) + (n + length (rowsAbove O k l))) (here-length O k l)
-
-      go : (p : Place) → r .place ≡ p → (o : Option A) → underFirst (rowHere O k l) ≡ o → Holds img (value .read) (placeOf p) o
-          → (countWith r ≡ length (rowsBelow O k l) + suc (length (rowsAbove O k l))) × (countWithout r ≡ length (rowsBelow O k l) + length (rowsAbove O k l))
-      go (P.At p) e none d h = absurd h
-      go (P.At p) e (some a) d h = (rw e (omega (arith, c .count, long, ap (oneIf O) d)), rw e (omega (arith, c .count, long, ap (oneIf O) d)))
-      go P.Nowhere e none d h = (rw e (omega (arith, c .count, long, ap (oneIf O) d)), rw e (omega (arith, c .count, long, ap (oneIf O) d)))
-      go P.Nowhere e (some a) d h = absurd h
+use Rattle.change.specs.Changed.{Changes, ifFits}
+use Rattle.change.specs.Sections.{Stands, tailOf}
+use Rattle.change.specs.Sections.{between}
+use Rattle.overlay.specs.NewImages.{livedOf, relived}
+use Rattle.change.specs.Cuts.{three, rowsBelow, rowHere, rowsAbove, rowsBytes, underFirst, countWith, CutIs, CutsRecords}
+use Rattle.change.specs.declared.answer.ChangeAnswer.{ChangeAnswer}
+use Rattle.change.specs.declared.answer.ChangeAnswer.the-variants as A
+use Rattle.change.specs.declared.cut.Cut.{Cut}
+use Rattle.change.specs.declared.section.Sections.{Sections}
+use Rattle.change.proofs.Sections.{span-part, span-both, store-bytes, stands-fits}
+use Rattle.change.proofs.Finishing.{changes-refused, changes-made}
+use Rattle.change.proofs.Cutting.{insert-cut, chain-rows, rows-append, count-cut}
 
 not-false : _≡_ {A = Bool} true false → ⊥
 not-false e = let z : _≡_ {A = ℕ} 0 1 = cc in omega arith

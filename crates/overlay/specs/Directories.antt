@@ -30,9 +30,9 @@ use Rattle.nodes.specs.declared.delta.EntryDelta.{EntryDelta}
 use Rattle.nodes.specs.declared.delta.EntryDelta.the-variants as E
 use Rattle.rules.specs.Changes.{DirectoryChange, onDelta, onDirectory}
 use Rattle.rules.specs.Queue.{onLive}
-use Rattle.overlay.specs.Sections.{Stands}
+use Rattle.change.specs.Sections.{Stands}
 use Rattle.overlay.specs.NewImages.{newBytes}
-use Rattle.overlay.specs.declared.section.Sections.{Sections}
+use Rattle.change.specs.declared.section.Sections.{Sections}
 use Rattle.overlay.specs.declared.write.NewImage.{NewImage}
 use Rattle.overlay.specs.declared.delta.LiveDelta.{LiveDelta}
 use Rattle.overlay.specs.declared.delta.LiveDirectory.{LiveDirectory}

@@ -26,13 +26,13 @@ use Rattle.rules.specs.Queue.{onLive}
 use Rattle.rules.specs.Refusals.{refusal, badTime}
 use Rattle.rules.specs.Outcomes.{result}
 use Rattle.rules.specs.ChangeCalls.{byRules}
-use Rattle.overlay.specs.Changed.{Changes}
-use Rattle.overlay.specs.Cuts.{countWith, countWithout}
+use Rattle.change.specs.Changed.{Changes}
+use Rattle.change.specs.Cuts.{countWith, countWithout}
 use Rattle.overlay.specs.NewImages.{rowsAnew}
 use Rattle.overlay.specs.Directories.{listOr, Redirects}
-use Rattle.overlay.specs.declared.answer.ChangeAnswer.{ChangeAnswer}
-use Rattle.overlay.specs.declared.cut.Cut.{Cut}
-use Rattle.overlay.specs.declared.section.Sections.{Sections}
+use Rattle.change.specs.declared.answer.ChangeAnswer.{ChangeAnswer}
+use Rattle.change.specs.declared.cut.Cut.{Cut}
+use Rattle.change.specs.declared.section.Sections.{Sections}
 use Rattle.overlay.specs.declared.write.NewImage.{NewImage}
 use Rattle.overlay.specs.declared.delta.Own.{Own}
 use Rattle.overlay.specs.declared.delta.Own.the-variants as O

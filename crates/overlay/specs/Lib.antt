@@ -1,8 +1,4 @@
--- What the calls answer, and what they write.
-pub mod Changed
-pub mod Sections
-pub mod Queues
+-- What the calls on a live record write.
 pub mod NewImages
-pub mod Cuts
 pub mod Directories
 pub mod Entries

@@ -4,7 +4,7 @@ ghost use Rattle.wire.specs.Put.{Put};
 ghost use Rattle.overlay.specs.Directories.{directoryOf, nodeDirectory, wholeOf, bareDelta, LivesAt, keptOf};
 ghost use Rattle.overlay.specs.NewImages.{ownBytes, rowsAnew, listAnew, directoryAnew};
 use crate::write::Lived;
-use crate::write::put_between;
+use change::copy::put_between;
 use image::inode::Place;
 use nodes::attr::AttrDelta;
 use nodes::delta::DirectoryDelta;

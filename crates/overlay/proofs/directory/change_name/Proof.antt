@@ -2,7 +2,7 @@ use borrow.Author.Needs.{needs}
 use Rattle.overlay.proofs.directory.change_name.Statement.{statement}
 use Rattle.overlay.proofs.directory.change_name.Tie as tie
 use mathlib.Core.Path.{sym, _∙_}
-use Rattle.overlay.proofs.Finishing.{changes-unopened}
+use Rattle.change.proofs.Finishing.{changes-unopened}
 use Rattle.overlay.proofs.Directories.{name-refused, time-refused, name-made}
 
 open-sections-requires : tie.Need-open-sections-requires

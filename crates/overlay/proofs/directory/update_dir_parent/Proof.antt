@@ -2,7 +2,7 @@ use borrow.Author.Needs.{needs}
 use Rattle.overlay.proofs.directory.update_dir_parent.Statement.{statement}
 use Rattle.overlay.proofs.directory.update_dir_parent.Tie as tie
 use Rattle.rules.specs.Calls.{Call}
-use Rattle.overlay.proofs.Finishing.{changes-unopened}
+use Rattle.change.proofs.Finishing.{changes-unopened}
 use Rattle.overlay.proofs.Directories.{parent-made}
 
 open-sections-requires : tie.Need-open-sections-requires

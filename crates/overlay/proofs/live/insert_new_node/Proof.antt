@@ -3,7 +3,7 @@ use Rattle.overlay.proofs.live.insert_new_node.Statement.{statement}
 use Rattle.overlay.proofs.live.insert_new_node.Tie as tie
 use mathlib.Core.Path.{sym, _∙_}
 use Rattle.rules.specs.Calls.{Call}
-use Rattle.overlay.proofs.Finishing.{changes-unopened}
+use Rattle.change.proofs.Finishing.{changes-unopened}
 use Rattle.overlay.proofs.Living.{insert-refused, insert-made}
 
 open-sections-requires : tie.Need-open-sections-requires

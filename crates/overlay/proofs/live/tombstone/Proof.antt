@@ -2,7 +2,7 @@ use borrow.Author.Needs.{needs}
 use Rattle.overlay.proofs.live.tombstone.Statement.{statement}
 use Rattle.overlay.proofs.live.tombstone.Tie as tie
 use Rattle.rules.specs.Calls.{Call}
-use Rattle.overlay.proofs.Finishing.{changes-unopened}
+use Rattle.change.proofs.Finishing.{changes-unopened}
 use Rattle.overlay.proofs.Living.{tombstone-made}
 
 open-sections-requires : tie.Need-open-sections-requires

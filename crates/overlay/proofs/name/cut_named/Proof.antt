@@ -3,7 +3,7 @@ use Rattle.overlay.proofs.name.cut_named.Tie as tie
 use Rattle.overlay.proofs.name.cut_named.Reads as reads
 use native.Mathlib.Omega.{arith}
 use borrow.Author.Needs.{needs}
-use Rattle.overlay.proofs.Cutting.{Cutting, cut-start, cut-over, cut-found, cut-on, cut-end}
+use Rattle.change.proofs.Cutting.{Cutting, cut-start, cut-over, cut-found, cut-on, cut-end}
 use Rattle.wire.specs.Orders.{byBytes}
 use Rattle.image.specs.FieldLayout.{name as nameText}
 use Rattle.image.specs.Under.{under}

@@ -1,7 +1,7 @@
 use borrow.Author.Needs.{needs}
 use Rattle.overlay.proofs.name.cut_names.Statement.{statement}
 use Rattle.overlay.proofs.name.cut_names.Tie as tie
-use Rattle.overlay.proofs.Cutting.{cut-list}
+use Rattle.change.proofs.Cutting.{cut-list}
 use Rattle.wire.specs.Orders.{byBytes}
 use Rattle.image.specs.FieldLayout.{name as nameText}
 use Rattle.image.specs.Under.{under}

@@ -1,0 +1,5 @@
+-- Laws that the calls which change an image share.
+pub mod Sections
+pub mod Finishing
+pub mod Batches
+pub mod Cutting

@@ -1,0 +1,5 @@
+-- What a change answers, and what it finds in an image.
+pub mod Changed
+pub mod Sections
+pub mod Batches
+pub mod Cuts

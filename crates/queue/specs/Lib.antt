@@ -1,0 +1,3 @@
+-- What the calls on the queue write.
+pub mod Queues
+pub mod NewQueues
