@@ -78,7 +78,7 @@ sources-more : (img : List ℕ) (w : Walk) (i : ℕ) (d : Run) → i < length (w
     → sourcesUnder img w (i + 1) ≡ runRows img H.Record (getD (w .layers) i d) ∷ sourcesUnder img w i
 sources-more img w i d h = rw (add-one, take-suc (w .layers) i d h) (runs-snoc img (take i (w .layers)) (getD (w .layers) i d) (runRows img H.Node (w .base) ∷ []))
 
-sources-set : (img : List ℕ) (w : Walk) (i : ℕ) (x : Run) → i < length (w .layers)
+pub sources-set : (img : List ℕ) (w : Walk) (i : ℕ) (x : Run) → i < length (w .layers)
     → runsOn img (take (i + 1) (set (w .layers) i x)) (runRows img H.Node (w .base) ∷ []) ≡ runRows img H.Record x ∷ sourcesUnder img w i
 sources-set img w i x h = rw (add-one, take-suc-set (w .layers) i x h) (runs-snoc img (take i (w .layers)) x (runRows img H.Node (w .base) ∷ []))
 
