@@ -24,16 +24,16 @@ use Rattle.merge.proofs.Sourced.{source-first, ended-inside}
 -- ---- each element of an array
 
 module _ {A : Type 0} (P : A → Type 0) where
-  every-replicate : (n : ℕ) (a : A) → P a → Every P (replicate n a)
+  pub every-replicate : (n : ℕ) (a : A) → P a → Every P (replicate n a)
   every-replicate zero a h = tt
   every-replicate (suc n) a h = (h, every-replicate n a h)
 
-  every-set : (l : List A) (i : ℕ) (a : A) → Every P l → P a → Every P (set l i a)
+  pub every-set : (l : List A) (i : ℕ) (a : A) → Every P l → P a → Every P (set l i a)
   every-set [] i a h k = tt
   every-set (x ∷ l) zero a h k = (k, h .1)
   every-set (x ∷ l) (suc i) a h k = (h .0, every-set l i a (h .1) k)
 
-  every-get : (l : List A) (i : ℕ) (d : A) → i < length l → Every P l → P (getD l i d)
+  pub every-get : (l : List A) (i : ℕ) (d : A) → i < length l → Every P l → P (getD l i d)
   every-get [] i d e h = absurd (omega arith)
   every-get (x ∷ l) zero d e h = h .0
   every-get (x ∷ l) (suc i) d e h = every-get l i d (omega arith) (h .1)
