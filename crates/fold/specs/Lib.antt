@@ -1,0 +1,4 @@
+-- What fold makes of nodes, and of their lists.
+pub mod Folded
+pub mod Lists
+pub mod FoldedNodes

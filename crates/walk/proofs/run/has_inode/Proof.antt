@@ -1,0 +1,16 @@
+use Rattle.walk.proofs.Running.{has-none, has-first}
+use Rattle.walk.proofs.run.has_inode.Statement.{statement}
+use Rattle.walk.proofs.run.has_inode.Tie as tie
+use Rattle.walk.proofs.run.has_inode.Reads as reads
+use Rattle.walk.proofs.run.has_inode.Lts as lts
+
+-- src/run.rt:83:9
+returns : tie.Need-returns
+returns c = search has-none
+
+-- src/run.rt:79:1
+returns-2 : tie.Need-returns-2
+returns-2 c = search has-first
+
+pub has-inode-spec : {M : Type 1} → statement M
+has-inode-spec = tie.close (tie.spec returns returns-2)

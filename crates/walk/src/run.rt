@@ -1,0 +1,108 @@
+// Runs: lists by inode in the image, each at a row of it.
+ghost use mathlib.Core.Path.{_≡_};
+ghost use Rattle.image.specs.Held.{held};
+ghost use Rattle.image.specs.Places.{Ends};
+ghost use Rattle.walk.specs.Runs.{Ended, Sound, RowsOf, ListOf, Has, Found, Passed};
+use image::inode::Held;
+use image::inode::Place;
+use image::node::pass_node;
+use image::record::pass_record;
+use wire::cursor::Cursor;
+use wire::cursor::place_at;
+use wire::number::read_number;
+
+// A list by inode, at the first of the rows that are left: its inode, the place of what stands under it, and the place after that.
+// With no rows left, it says nothing.
+pub struct Run {
+    pub inode: u64,
+    pub place: usize,
+    pub next: usize,
+    pub left: u64,
+}
+
+// A run with no rows left.
+pub fn no_run() -> Run
+    ensures { λ r. ⌜ Ended r ⌝ }
+{
+    Run {
+        inode: 0,
+        place: 0,
+        next: 0,
+        left: 0,
+    }
+}
+
+// Passes what stands under an inode.
+fn pass_under_inode(img: &[u8], at: Cursor, what: Held) -> Cursor
+    ensures { λ r. ⌜ Ends (now (img .entry)) (held what .read) at r ⌝ }
+{
+    match what {
+        Held::Node => pass_node(img, at),
+        Held::Record => pass_record(img, at),
+    }
+}
+
+// The run at the first of the `left` rows from `at` on.
+pub fn run_from(img: &[u8], at: usize, left: u64, what: Held) -> Run
+    ensures { λ r. ⌜ RowsOf (now (img .entry)) what left at r ⌝ }
+{
+    if left == 0 {
+        return no_run();
+    }
+    let inode = read_number(img, Cursor::At(at), 0xFFFF_FFFF_FFFF_FFFF);
+    let start = inode.next;
+    let end = pass_under_inode(img, start, what);
+    match end {
+        Cursor::At(next) => Run {
+            inode: inode.value,
+            place: place_at(start),
+            next,
+            left,
+        },
+        Cursor::Stop(_) => no_run(),
+    }
+}
+
+// The run at the first row of the list at `at`, its count first.
+pub fn run_at(img: &[u8], at: usize, what: Held) -> Run
+    ensures { λ r. ⌜ ListOf (now (img .entry)) what at r ⌝ }
+{
+    let count = read_number(img, Cursor::At(at), 0xFFFF_FFFF);
+    let next = count.next;
+    match next {
+        Cursor::At(first) => run_from(img, first, count.value, what),
+        Cursor::Stop(_) => no_run(),
+    }
+}
+
+// Whether a run is at an inode.
+pub fn has_inode(run: Run, inode: u64) -> bool
+    ensures { λ r. ⌜ Has run inode r ⌝ }
+{
+    if run.left == 0 {
+        return false;
+    }
+    run.inode == inode
+}
+
+// The place of what stands under an inode, if the run is at it.
+pub fn place_under(img: &[u8], run: Run, inode: u64, what: Held) -> Place
+    requires { ⌜ Sound (now img) what run ⌝ }
+    ensures { λ r. ⌜ Found (now (img .entry)) what run inode r ⌝ }
+{
+    if has_inode(run, inode) {
+        return Place::At(run.place);
+    }
+    Place::Nowhere
+}
+
+// The run past an inode, if it is at it.
+pub fn past_inode(img: &[u8], run: Run, inode: u64, what: Held) -> Run
+    requires { ⌜ Sound (now img) what run ⌝ }
+    ensures { λ r. ⌜ Passed (now (img .entry)) what run inode r ⌝ }
+{
+    if has_inode(run, inode) {
+        return run_from(img, run.next, run.left - 1, what);
+    }
+    run
+}
