@@ -3,16 +3,16 @@
 use mathlib.Core.Path.{_≡_, refl, sym, ap, subst, _∙_}
 use mathlib.Core.List.{List, [], _∷_, _++_, append-assoc, append-nil}
 use mathlib.Core.Option.{Option, none, some}
-use Prim.Native.Nat.{ℕ, zero, suc, _+_, _-_, _≤_, _<_}
+use Prim.Native.Nat.{ℕ, suc, _+_, _-_, _≤_, _<_}
 use native.Mathlib.Omega.{arith}
 use lib.ListN.{length, drop, length-append}
 use Rattle.wire.specs.declared.order.Ordering.{Ordering}
 use Rattle.wire.specs.declared.order.Ordering.the-variants.{Less, Equal, Greater}
 use Rattle.wire.specs.declared.cursor.Cursor.{Cursor}
-use Rattle.wire.specs.declared.cursor.Cursor.the-variants.{At, Stop}
+use Rattle.wire.specs.declared.cursor.Cursor.the-variants.{At}
 use Rattle.wire.specs.Order.{Order}
-use Rattle.wire.specs.Maps.{Map}
-use Rattle.wire.specs.Rows.{place, insert}
+use Rattle.wire.specs.Maps.{Map, get, put, map-ext, get-put}
+use Rattle.wire.specs.Rows.{place, insert, Rising, lookup, choose}
 use Rattle.wire.specs.Number.{numberBytes, number-read, numberTo}
 use Rattle.wire.specs.Codec.{Codec}
 use Rattle.wire.specs.Lists.{Every, FitsRow, chain-write, row, onto, lastCount}
@@ -27,6 +27,7 @@ use Rattle.change.specs.Sections.{Spans}
 use Rattle.change.specs.Cuts.{three, rowsBelow, rowHere, rowsAbove, rowsBytes, underFirst, countWith, countWithout, CutIs, Cuts, CutsList}
 use Rattle.change.specs.declared.cut.Cut.{Cut}
 use Rattle.change.proofs.Sections.{span-back, span-front, span-both, span-reads, Past, ends-past}
+use Rattle.wire.specs.RowLaws.{lookup-under, under-below}
 
 -- ---- rows with the key's own changed
 
@@ -268,3 +269,30 @@ module _ {K A : Type 0} (O : Order K) (key : Codec K) (value : Codec A) {img : L
       go (P.At p) e (some a) d h = (rw e (omega (arith, c .count, long, ap (oneIf O) d)), rw e (omega (arith, c .count, long, ap (oneIf O) d)))
       go P.Nowhere e none d h = (rw e (omega (arith, c .count, long, ap (oneIf O) d)), rw e (omega (arith, c .count, long, ap (oneIf O) d)))
       go P.Nowhere e (some a) d h = absurd h
+
+-- ---- what stands under a key
+
+module _ {K A : Type 0} (O : Order K) where
+  lookup-here : (k : K) (l : List (K × A)) → Rising O l → lookup O k l ≡ underFirst (rowHere O k l)
+  unfolding lookup rowHere
+  lookup-here k [] r = refl
+  lookup-here k (e ∷ l) r = go (O .cmp k (e .0)) refl (lookup-here k l (r .1))
+    where
+      go : (o : Ordering) → O .cmp k (e .0) ≡ o → lookup O k l ≡ underFirst (rowHere O k l)
+          → choose o (some (e .1)) (lookup O k l) ≡ underFirst (three o [] (e ∷ []) (rowHere O k l))
+      go Less d h = lookup-under O k l (under-below O k (e .0) l d (r .0))
+      go Equal d h = refl
+      go Greater d h = h
+
+  pub get-here : (k : K) (m : Map O A) → get O k m ≡ underFirst (rowHere O k (m .rows))
+  unfolding get
+  get-here k m = lookup-here k (m .rows) (m .rising)
+
+-- what stands under a key is put there again
+pub put-same : {K A : Type 0} (O : Order K) (k : K) (o : Option A) (m : Map O A) → get O k m ≡ o → put O k o m ≡ m
+put-same {K} {A} O k o m e = map-ext O (put O k o m) m (λ j. get-put O j k o m ∙ go j (O .cmp j k) refl)
+  where
+    go : (j : K) (d : Ordering) → O .cmp j k ≡ d → choose d o (get O j m) ≡ get O j m
+    go j Less h = refl
+    go j Equal h = sym e ∙ ap (λ (x : K). get O x m) (sym (O .same j k h))
+    go j Greater h = refl

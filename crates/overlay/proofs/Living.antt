@@ -1,10 +1,10 @@
 -- Changes of one inode's live record: "Insert replaces the live record", "Tombstone replaces it too".
 -- Assumes nothing.
-use mathlib.Core.Path.{_≡_, refl, sym, ap, subst, _∙_}
+use mathlib.Core.Path.{_≡_, refl, sym, ap, _∙_}
 use mathlib.Core.Bool.{Bool, true, false, not}
-use mathlib.Core.List.{List, [], _∷_, _++_, append-assoc, append-nil}
-use mathlib.Core.Option.{Option, none, some}
-use Prim.Native.Nat.{ℕ, zero, suc, _+_, _≤_, _<_}
+use mathlib.Core.List.{List, [], _∷_, _++_, append-assoc}
+use mathlib.Core.Option.{none, some}
+use Prim.Native.Nat.{ℕ, _+_, _<_}
 use native.Mathlib.Omega.{arith}
 use lib.ListN.{length, drop, length-append, length-drop, drop-of-length-le}
 use lib.Dec.{eqb}
@@ -12,27 +12,20 @@ use borrow.Author.Tests.{eqb-true, eqb-false}
 use Rattle.wire.specs.declared.cursor.Fault.{Fault}
 use Rattle.wire.specs.declared.cursor.Cursor.{Cursor}
 use Rattle.wire.specs.declared.cursor.Cursor.the-variants.{At, Stop}
-use Rattle.wire.specs.declared.order.Ordering.{Ordering}
-use Rattle.wire.specs.declared.order.Ordering.the-variants.{Less, Equal, Greater}
-use Rattle.wire.specs.Order.{Order}
 use Rattle.wire.specs.Orders.{byNumber}
 use Rattle.wire.specs.Rows.{insert, set}
-use Rattle.wire.specs.Maps.{get, put}
+use Rattle.wire.specs.Maps.{put}
 use Rattle.wire.specs.Parse.{Parsed, fault, got}
 use Rattle.wire.specs.Codec.{Codec, whole, decode, encode-decode}
 use Rattle.wire.specs.Number.{numberBytes, groups}
-use Rattle.wire.specs.Reading.{Reads, part}
+use Rattle.wire.specs.Reading.{Reads}
 use Rattle.image.specs.Meaning.{Record, Layer, Store, tombstone, delta}
 use Rattle.image.specs.KindLayout.{code}
 use Rattle.image.specs.FieldLayout.{inode}
 use Rattle.image.specs.NodeLayout.{base}
 use Rattle.image.specs.RecordLayout.{layerRecord, records}
 use Rattle.image.specs.StoreLayout.{batches}
-use Rattle.image.specs.Places.{Holds}
-use Rattle.image.specs.Held.{placeOf}
 use Rattle.image.specs.RoundTrip.{writeImage}
-use Rattle.image.specs.declared.inode.Place.{Place}
-use Rattle.image.specs.declared.inode.Place.the-variants as P
 use Rattle.nodes.specs.declared.delta.EntryDelta.{EntryDelta}
 use Rattle.nodes.specs.declared.delta.EntryDelta.the-variants as E
 use Rattle.nodes.specs.declared.delta.NodeDelta.{NodeDelta}
@@ -46,9 +39,8 @@ use Rattle.rules.specs.Refusals.{noDelta}
 use Rattle.rules.specs.ChangeCalls.{ifRead, givenRecord, insertNewNode, tombstone as tombstoned}
 use Rattle.change.specs.Changed.{Changes, ifFits}
 use Rattle.change.specs.Sections.{Stands, tailOf}
-use Rattle.change.specs.Sections.{between}
 use Rattle.overlay.specs.NewImages.{livedOf, relived}
-use Rattle.change.specs.Cuts.{three, rowsBelow, rowHere, rowsAbove, rowsBytes, underFirst, countWith, CutIs, CutsRecords}
+use Rattle.change.specs.Cuts.{rowsBelow, rowsAbove, rowsBytes, countWith, CutIs, CutsRecords}
 use Rattle.change.specs.declared.answer.ChangeAnswer.{ChangeAnswer}
 use Rattle.change.specs.declared.answer.ChangeAnswer.the-variants as A
 use Rattle.change.specs.declared.cut.Cut.{Cut}

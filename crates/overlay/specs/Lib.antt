@@ -1,4 +1,3 @@
 -- What the calls on a live record write.
 pub mod NewImages
 pub mod Directories
-pub mod Entries

@@ -1,6 +1,4 @@
 // The calls that change the live record of one inode: each writes the new image to a target, or refuses by a number of document 01 and writes nothing.
 pub mod delta;
-pub mod directory;
 pub mod live;
-pub mod name;
 pub mod write;

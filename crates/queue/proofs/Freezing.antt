@@ -6,7 +6,6 @@ use mathlib.Core.List.{List, [], _∷_, _++_, append-nil, append-assoc}
 use mathlib.Core.Option.{none}
 use Prim.Native.Nat.{ℕ, zero, suc, _+_, _≤_, _<_}
 use native.Mathlib.Omega.{arith}
-use native.Mathlib.Numerals.{add-one}
 use lib.ListN.{length, drop, length-append}
 use borrow.Author.Tests.{le-leb, lt-leb, eq-eqb, ne-eqb}
 use Rattle.wire.specs.declared.cursor.Cursor.{Cursor}
@@ -35,7 +34,7 @@ use Rattle.rules.specs.Refusals.{isEmpty, sumOf, isFull}
 use Rattle.rules.specs.Outcomes.{result}
 use Rattle.rules.specs.ChangeCalls.{freezeLive}
 use Rattle.change.specs.Changed.{Changes, ifFits}
-use Rattle.change.specs.Sections.{Spans, tailOf, Stands}
+use Rattle.change.specs.Sections.{tailOf, Stands}
 use Rattle.change.specs.Batches.{HeadParts}
 use Rattle.queue.specs.Queues.{headBytes, headOperations, sumFrom, QueueAt, atCapacity, frozenHead, tailAfterId}
 use Rattle.change.specs.Sections.{between}

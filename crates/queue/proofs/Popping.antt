@@ -11,10 +11,10 @@ use Rattle.wire.specs.declared.cursor.Cursor.the-variants.{At}
 use Rattle.wire.specs.Number.{numberBytes, number-read, numberTo}
 use Rattle.wire.specs.Reading.{Reads, Answers, placeAt}
 use Rattle.image.specs.Meaning.{Batch, Store}
-use Rattle.image.specs.Fits.{FitsBatch, FitsStore}
+use Rattle.image.specs.Fits.{FitsBatch}
 use Rattle.image.specs.NodeLayout.{base}
 use Rattle.image.specs.RecordLayout.{records}
-use Rattle.image.specs.RoundTrip.{writeImage, read-fits}
+use Rattle.image.specs.RoundTrip.{writeImage}
 use Rattle.records.specs.Tails.{tail}
 use Rattle.rules.specs.Initial.{usual}
 use Rattle.rules.specs.Calls.{Call}

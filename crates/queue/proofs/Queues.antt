@@ -1,30 +1,19 @@
 -- The bytes and operations of all batches of a queue.
 -- Assumes nothing.
-use mathlib.Core.Path.{_≡_, refl, sym, ap, _∙_}
-use mathlib.Core.List.{List, [], _∷_, _++_, append-nil, append-assoc}
-use mathlib.Core.Option.{Option, none, some}
+use mathlib.Core.Path.{_≡_, refl, ap, _∙_}
+use mathlib.Core.List.{List, [], _∷_, _++_, append-assoc}
 use Prim.Native.Nat.{ℕ, zero, suc, _+_, _*_, _-_, _≤_, _<_}
 use native.Mathlib.Omega.{arith}
 use lib.ListN.{length, drop}
 use Rattle.wire.specs.declared.cursor.Fault.{Fault}
 use Rattle.wire.specs.declared.cursor.Cursor.{Cursor}
 use Rattle.wire.specs.declared.cursor.Cursor.the-variants.{At, Stop}
-use Rattle.wire.specs.Parse.{Parsed, fault, got, bind, never-got}
-use Rattle.wire.specs.Number.{numberBytes, number-read}
-use Rattle.wire.specs.Lists.{chain-write, Every}
-use Rattle.wire.specs.Reading.{Reads, Answers, run, give, placeAt}
-use Rattle.wire.proofs.Readers.{read-then}
+use Rattle.wire.specs.Parse.{fault, got}
+use Rattle.wire.specs.Number.{number-read}
+use Rattle.wire.specs.Lists.{Every}
+use Rattle.wire.specs.Reading.{Reads, Answers, placeAt}
 use Rattle.image.specs.Meaning.{Batch}
 use Rattle.image.specs.Fits.{FitsBatch}
-use Rattle.image.specs.FieldLayout.{inode, word, moment}
-use Rattle.image.specs.RecordLayout.{layerRecord, records}
-use Rattle.image.specs.StoreLayout.{batchAfter, idOf, batches}
-use Rattle.image.specs.Gathering.{batchHead}
-use Rattle.image.specs.Held.{Finds}
-use Rattle.image.specs.Places.{Ends, passed}
-use Rattle.image.specs.declared.inode.Held.the-variants as H
-use Rattle.image.specs.declared.inode.Place.{Place}
-use Rattle.image.proofs.Passing.{ends-got, ends-fault}
 use Rattle.rules.specs.Refusals.{sumOf}
 use Rattle.queue.specs.Queues.{headBytes, headOperations, sumFrom, Totalled, QueueAt}
 use Rattle.queue.specs.declared.batch.Queue.{Queue}

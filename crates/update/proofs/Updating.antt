@@ -64,8 +64,8 @@ use Rattle.update.specs.declared.write.NewImage.the-variants as N
 use Rattle.update.specs.declared.fields.Updated.{Updated}
 use Rattle.change.proofs.Finishing.{changes-refused, changes-made}
 use Rattle.overlay.proofs.Living.{not-false, read-whole, read-longer, is-cut, lived-bytes}
-use Rattle.overlay.proofs.Entries.{get-here}
-use Rattle.overlay.proofs.Directories.{put-same}
+use Rattle.change.proofs.Cutting.{get-here}
+use Rattle.change.proofs.Cutting.{put-same}
 use Rattle.update.proofs.Onto.{regroup, changed, delta-bytes}
 
 -- ---- no live record

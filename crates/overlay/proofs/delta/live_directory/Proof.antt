@@ -1,7 +1,7 @@
 use borrow.Author.Needs.{needs}
 use Rattle.overlay.proofs.delta.live_directory.Statement.{statement}
 use Rattle.overlay.proofs.delta.live_directory.Tie as tie
-use Rattle.overlay.proofs.Directories.{lives-at, lives-bare}
+use Rattle.overlay.proofs.LiveDirectories.{lives-at, lives-bare}
 
 enum-known-place : tie.Need-enum-known-place
 enum-known-place c = search needs

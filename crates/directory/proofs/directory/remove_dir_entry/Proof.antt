@@ -1,0 +1,16 @@
+use borrow.Author.Needs.{needs}
+use Rattle.directory.proofs.directory.remove_dir_entry.Statement.{statement}
+use Rattle.directory.proofs.directory.remove_dir_entry.Tie as tie
+use Rattle.directory.proofs.Directories.{naming-remove}
+
+change-name-requires : tie.Need-change-name-requires
+change-name-requires c κs = search needs
+
+same-length : tie.Need-same-length
+same-length c = search needs
+
+returns : tie.Need-returns
+returns c = c .before .before .change-name .ensures _ (naming-remove _ _ _)
+
+pub remove-dir-entry-spec : {M : Type 1} → statement M
+remove-dir-entry-spec = tie.close (tie.spec change-name-requires same-length returns)

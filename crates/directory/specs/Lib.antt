@@ -1,0 +1,2 @@
+-- Lists by name with one row changed.
+pub mod Entries

@@ -1,0 +1,3 @@
+// Changes of one inode's live directory delta: its entries and its parent.
+pub mod directory;
+pub mod name;
