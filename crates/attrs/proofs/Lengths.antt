@@ -10,14 +10,14 @@ use Rattle.rules.specs.Fold.{given}
 use Rattle.rules.specs.FileAttrs.{baseSize, changeSize}
 use Rattle.nodes.specs.declared.part.Part.{Part}
 use Rattle.nodes.specs.declared.option.OptionPart.the-variants as P
-use Rattle.nodes.specs.declared.delta.SymlinkDelta.{SymlinkDelta}
-use Rattle.nodes.specs.declared.delta.NodeDelta.{NodeDelta}
-use Rattle.nodes.specs.declared.delta.NodeDelta.the-variants as D
+use Rattle.deltas.specs.declared.delta.SymlinkDelta.{SymlinkDelta}
+use Rattle.deltas.specs.declared.delta.NodeDelta.{NodeDelta}
+use Rattle.deltas.specs.declared.delta.NodeDelta.the-variants as D
 use Rattle.nodes.specs.declared.node.NodeKind.{NodeKind}
 use Rattle.nodes.specs.declared.node.NodeKind.the-variants as K
 use Rattle.nodes.specs.Options.{Inside, textAt}
 use Rattle.nodes.specs.Nodes.{bodyMeant}
-use Rattle.nodes.specs.Deltas.{changeMeant}
+use Rattle.deltas.specs.Deltas.{changeMeant}
 use Rattle.attrs.specs.Attrs.{TargetIn, LinkIn}
 
 text-length : (img : List ℕ) (p : Part) → Inside img p → p .length ≡ length (textAt img p)

@@ -6,14 +6,14 @@ use Prim.Native.Nat.{ℕ}
 use denote.Enum.Declared.{tagOf}
 use Rattle.rules.specs.Fold.{given}
 use Rattle.rules.specs.FileAttrs.{baseDevice, basePerm, baseSize, changeDevice, changeSize}
-use Rattle.nodes.specs.declared.delta.NodeDelta.{NodeDelta}
+use Rattle.deltas.specs.declared.delta.NodeDelta.{NodeDelta}
 use Rattle.nodes.specs.declared.node.NodeKind.{NodeKind}
 use Rattle.nodes.specs.Nodes.{bodyMeant}
-use Rattle.nodes.specs.Deltas.{changeMeant}
-use Rattle.nodes.proofs.delta.NodeDelta as delta
+use Rattle.deltas.specs.Deltas.{changeMeant}
+use Rattle.deltas.proofs.delta.NodeDelta as delta
 use Rattle.nodes.proofs.node.NodeKind as kind
 use types.Run.{OneOf}
-use Rattle.nodes.proofs.Others.{one-delta, one-kind, notSymlink}
+use Rattle.deltas.proofs.Others.{one-delta, one-kind, notSymlink}
 
 -- all but the two devices
 abbrev notDevice : List ℕ

@@ -5,9 +5,9 @@ use Prim.Native.Nat.{ℕ}
 use Rattle.rules.specs.Fold.{given}
 use Rattle.rules.specs.FileAttrs.{changeSize, onAttr}
 use Rattle.nodes.specs.Options.{Inside, InsideIf}
-use Rattle.nodes.specs.Deltas.{changeMeant, deltaMeant}
-use Rattle.nodes.specs.declared.delta.NodeDelta.{NodeDelta}
-use Rattle.nodes.specs.declared.delta.NodeDelta.the-variants.{Directory, File, Symlink, Fifo, CharDevice, BlockDevice, Socket}
+use Rattle.deltas.specs.Deltas.{changeMeant, deltaMeant}
+use Rattle.deltas.specs.declared.delta.NodeDelta.{NodeDelta}
+use Rattle.deltas.specs.declared.delta.NodeDelta.the-variants.{Directory, File, Symlink, Fifo, CharDevice, BlockDevice, Socket}
 use Rattle.nodes.specs.declared.node.NodeKind.{NodeKind}
 use Rattle.nodes.specs.declared.node.NodeKind.the-variants as K
 use Rattle.attrs.specs.declared.node.FileAttr.{FileAttr}

@@ -4,9 +4,9 @@ ghost use mathlib.Core.List.{List};
 ghost use Prim.Native.Nat.{ℕ};
 ghost use Rattle.image.specs.Meaning.{kindOf, changedKind};
 ghost use Rattle.nodes.specs.Nodes.{bodyMeant};
-ghost use Rattle.nodes.specs.Deltas.{changeMeant};
+ghost use Rattle.deltas.specs.Deltas.{changeMeant};
 ghost use Rattle.attrs.specs.Meant.{kindMeant};
-use nodes::delta::NodeDelta;
+use deltas::delta::NodeDelta;
 use nodes::node::NodeKind;
 use wire::time::Time;
 

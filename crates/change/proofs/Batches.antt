@@ -17,7 +17,7 @@ use Rattle.image.specs.Fits.{FitsBatch}
 use Rattle.image.specs.FieldLayout.{inode, word, moment}
 use Rattle.image.specs.RecordLayout.{layerRecord, records}
 use Rattle.image.specs.StoreLayout.{batchAfter, idOf, batches}
-use Rattle.image.specs.Gathering.{batchHead}
+use Rattle.survey.specs.Gathering.{batchHead}
 use Rattle.image.specs.Held.{Finds}
 use Rattle.image.specs.Places.{Ends}
 use Rattle.image.specs.declared.inode.Held.the-variants as H

@@ -13,7 +13,7 @@ use Rattle.wire.specs.Number.{edge}
 use Rattle.wire.specs.Put.{Put}
 use Rattle.wire.proofs.Puts.{put-whole}
 use Rattle.image.specs.Meaning.{Store}
-use Rattle.image.specs.Verdict.{verdictOf}
+use Rattle.survey.specs.Verdict.{verdictOf}
 use Rattle.image.specs.RoundTrip.{writeImage}
 use Rattle.rules.specs.Initial.{usual}
 use Rattle.rules.specs.Answers.{Answer, refused, answer}

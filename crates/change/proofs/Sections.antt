@@ -17,18 +17,18 @@ use Rattle.image.specs.RecordLayout.{layerRecord, records}
 use Rattle.image.specs.StoreLayout.{batches, store}
 use Rattle.image.specs.Fits.{FitsStore}
 use Rattle.image.specs.Places.{passed, Ends}
-use Rattle.image.specs.Survey.{Surveys}
+use Rattle.survey.specs.Survey.{Surveys}
 use Rattle.image.specs.RoundTrip.{readImage, writeImage, read-then-write, read-fits}
-use Rattle.image.specs.declared.store.Survey.{Survey}
-use Rattle.image.specs.declared.store.ImageRead.{ImageRead}
-use Rattle.image.specs.declared.store.Verdict.the-variants as D
-use Rattle.image.specs.Verdict.{Judges, refusalNumber}
+use Rattle.survey.specs.declared.store.Survey.{Survey}
+use Rattle.survey.specs.declared.store.ImageRead.{ImageRead}
+use Rattle.survey.specs.declared.store.Verdict.the-variants as D
+use Rattle.survey.specs.Verdict.{Judges, refusalNumber}
 use Rattle.rules.proofs.Asked.{verdict-fine, number-fine}
 use Rattle.records.specs.Tails.{tail}
 use Rattle.change.specs.Sections.{between, Spans, tailOf, Stands, Opens, OpensInode}
 use Rattle.change.specs.declared.section.Sections.{Sections}
 use Rattle.change.specs.declared.section.OpenedInode.{OpenedInode}
-use Rattle.layers.proofs.Opening.{image-opened}
+use Rattle.stack.proofs.Opening.{image-opened}
 
 -- ---- bytes that stand in an image
 

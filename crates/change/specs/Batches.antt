@@ -4,7 +4,7 @@ use Prim.Native.Nat.{ℕ}
 use Rattle.wire.specs.declared.time.Time.{Time}
 use Rattle.wire.specs.Parse.{Parsed, got, bind}
 use Rattle.image.specs.RecordLayout.{records}
-use Rattle.image.specs.Gathering.{batchHead}
+use Rattle.survey.specs.Gathering.{batchHead}
 
 -- "Batch: id, bytes, operations, reason 1 to 5, commit time", without its records
 abbrev pub HeadParts : Type 0

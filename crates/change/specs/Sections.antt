@@ -10,10 +10,10 @@ use Rattle.image.specs.NodeLayout.{base}
 use Rattle.image.specs.RecordLayout.{records}
 use Rattle.image.specs.StoreLayout.{batches}
 use Rattle.image.specs.RoundTrip.{readImage}
-use Rattle.image.specs.Verdict.{refusalNumber, verdictOf}
+use Rattle.survey.specs.Verdict.{refusalNumber, verdictOf}
 use Rattle.records.specs.Tails.{TailParts, tail}
 use Rattle.change.specs.declared.section.Sections.{Sections}
-use Rattle.layers.specs.Stacks.{StackOf}
+use Rattle.stack.specs.Stacks.{StackOf}
 use Rattle.change.specs.declared.section.Opened.{Opened}
 use Rattle.change.specs.declared.section.OpenedInode.{OpenedInode}
 

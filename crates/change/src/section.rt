@@ -1,8 +1,8 @@
 // Where the sections of an image stand that may be used.
 ghost use Rattle.change.specs.Sections.{Opens, OpensInode};
-use image::batch::InodeLayerStack;
-use image::store::read_image;
-use image::store::refusal_number;
+use survey::batch::InodeLayerStack;
+use survey::store::read_image;
+use survey::store::refusal_number;
 use wire::cursor::place_at;
 
 // The base is from 0 to `batches`, and what follows live is from `tail` to the end.

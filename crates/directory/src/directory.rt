@@ -22,7 +22,7 @@ use change::cut::cut_records;
 use change::section::Sections;
 use change::section::open_sections;
 use image::name::Under;
-use layers::name::bad_name;
+use stack::name::bad_name;
 use nodes::attr::AttrDelta;
 use nodes::option::OptionTime;
 use nodes::option::OptionU64;

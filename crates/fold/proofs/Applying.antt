@@ -9,19 +9,19 @@ use types.Run.{OneOf}
 use Rattle.image.specs.Meaning.{Entries, Names, directory, file, symlink}
 use Rattle.rules.specs.Fold.{given, addAll, removeAll, onBody}
 use Rattle.nodes.specs.Options.{textAt, textOf}
-use Rattle.nodes.specs.Deltas.{attrOf, changeMeant}
+use Rattle.deltas.specs.Deltas.{attrOf, changeMeant}
 use Rattle.nodes.specs.declared.part.Part.{Part}
 use Rattle.nodes.specs.declared.option.OptionPart.{OptionPart}
 use Rattle.nodes.specs.declared.option.OptionPart.the-variants as P
 use Rattle.nodes.specs.declared.attr.AttrDelta.{AttrDelta}
-use Rattle.nodes.specs.declared.delta.NodeDelta.{NodeDelta}
+use Rattle.deltas.specs.declared.delta.NodeDelta.{NodeDelta}
 use Rattle.nodes.specs.declared.node.InodeMeta.{InodeMeta}
 use Rattle.nodes.specs.declared.node.Node.{Node}
 use Rattle.nodes.specs.declared.node.NodeKind.{NodeKind}
 use Rattle.nodes.specs.declared.node.NodeKind.the-variants as K
-use Rattle.nodes.proofs.delta.NodeDelta as delta
+use Rattle.deltas.proofs.delta.NodeDelta as delta
 use Rattle.nodes.proofs.node.NodeKind as kind
-use Rattle.nodes.proofs.Others.{one-delta, one-kind, notDirectory, notSymlink}
+use Rattle.deltas.proofs.Others.{one-delta, one-kind, notDirectory, notSymlink}
 use Rattle.fold.specs.Folded.{bodyWith, onEntries, partOr, withParent, withSize, withTarget, AppliesMeta, AppliesKind, AppliesNode}
 
 -- ---- what the last arm of a match says

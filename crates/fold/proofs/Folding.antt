@@ -26,32 +26,32 @@ use Rattle.image.specs.NodeLayout.{bodyPart, bodyPartOf, node}
 use Rattle.image.specs.Places.{Ends}
 use Rattle.image.specs.Held.{placeOf}
 use Rattle.image.specs.declared.name.Under.the-variants as U
-use Rattle.image.specs.declared.batch.InodeLayerStack.{InodeLayerStack}
+use Rattle.survey.specs.declared.batch.InodeLayerStack.{InodeLayerStack}
 use Rattle.image.specs.declared.inode.Place.the-variants as P
 use Rattle.rules.specs.Initial.{usual}
 use Rattle.rules.specs.Fold.{sameKind, applied, foldRecord}
 use Rattle.rules.specs.PlacedStacks.{recordsOn, nodeAt, unplaced, unplacedNode}
 use Rattle.rules.proofs.Folded.{folded}
 use Rattle.nodes.specs.Listed.{listAt}
-use Rattle.nodes.specs.Deltas.{attrOf, changeMeant, deltaMeant, entryMeant}
+use Rattle.deltas.specs.Deltas.{attrOf, changeMeant, deltaMeant, entryMeant}
 use Rattle.nodes.specs.Nodes.{bodyMeant, nodeMeant}
-use Rattle.nodes.specs.declared.delta.NodeDelta.{NodeDelta}
-use Rattle.nodes.specs.declared.delta.EntryDelta.{EntryDelta}
-use Rattle.nodes.specs.declared.delta.EntryDelta.the-variants as E
+use Rattle.deltas.specs.declared.delta.NodeDelta.{NodeDelta}
+use Rattle.deltas.specs.declared.delta.EntryDelta.{EntryDelta}
+use Rattle.deltas.specs.declared.delta.EntryDelta.the-variants as E
 use Rattle.nodes.specs.declared.node.NodeKind.{NodeKind}
 use Rattle.nodes.specs.declared.node.NodeKind.the-variants as K
 use Rattle.nodes.specs.declared.node.Node.{Node}
 use Rattle.nodes.proofs.node.NodeKind as kinds
-use Rattle.nodes.proofs.Others.{one-kind, notDirectory}
+use Rattle.deltas.proofs.Others.{one-kind, notDirectory}
 use Rattle.attrs.specs.Meant.{kindMeant}
 use Rattle.attrs.specs.declared.node.FileType.{FileType}
 use Rattle.records.specs.Writes.{metaBytes, metaWith, meta-with-bytes}
 use Rattle.records.specs.Records.{bodyBytes}
 use Rattle.records.proofs.Writing.{part-written}
-use Rattle.layers.specs.Stacks.{Stacked, recordsUnder, recordsIn, nodeIn, RecordIs, BaseIs}
-use Rattle.layers.specs.declared.stack.OptionNode.{OptionNode}
-use Rattle.layers.specs.declared.stack.OptionNode.the-variants as O
-use Rattle.layers.proofs.Walks.{records-more}
+use Rattle.stack.specs.Stacks.{Stacked, recordsUnder, recordsIn, nodeIn, RecordIs, BaseIs}
+use Rattle.stack.specs.declared.stack.OptionNode.{OptionNode}
+use Rattle.stack.specs.declared.stack.OptionNode.the-variants as O
+use Rattle.stack.proofs.Walks.{records-more}
 use Rattle.fold.specs.Folded.{bodyWith, nodeWith, onAttributes, onEntries, FirstNode, AppliesNode}
 use Rattle.fold.specs.Lists.{attributesOf, entriesOf}
 use Rattle.fold.specs.FoldedNodes.{Shows, ShowsIf, FoldsDelta, FoldsRecord, foldedIn, FoldsTo, bodyWritten, bytesIf, Merged, CopiesNode}

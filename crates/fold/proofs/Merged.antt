@@ -16,10 +16,10 @@ use Rattle.wire.specs.Number.{edge}
 use Rattle.wire.specs.Lists.{Every, chain-write, row, onto, lastCount}
 use Rattle.image.specs.Meaning.{Text, Entries, Attributes}
 use Rattle.image.specs.FieldLayout.{name, inode, value, attributes, entries}
-use Rattle.image.specs.declared.batch.InodeLayerStack.{InodeLayerStack}
+use Rattle.survey.specs.declared.batch.InodeLayerStack.{InodeLayerStack}
 use Rattle.rules.proofs.MapValues.{mapRow, map-rows}
 use Rattle.attrs.specs.declared.node.FileType.{FileType}
-use Rattle.layers.specs.Stacks.{recordsIn, nodeIn}
+use Rattle.stack.specs.Stacks.{recordsIn, nodeIn}
 use Rattle.merge.specs.Pile.{laid, pile, total, itself, decisions}
 use Rattle.merge.specs.Sources.{Given, Decided, sourceRows}
 use Rattle.merge.specs.Merges.{sourcesOf, givenBy}

@@ -14,12 +14,12 @@ use Rattle.rules.specs.Fold.{given, addAll, removeAll, alterAll, onMeta, onBody
 use Rattle.nodes.specs.Options.{textAt}
 use Rattle.nodes.specs.Listed.{listOf}
 use Rattle.nodes.specs.Attrs.{fieldsMeant}
-use Rattle.nodes.specs.Deltas.{attrOf, changeMeant, deltaMeant}
+use Rattle.deltas.specs.Deltas.{attrOf, changeMeant, deltaMeant}
 use Rattle.nodes.specs.declared.part.Part.{Part}
 use Rattle.nodes.specs.declared.option.OptionPart.{OptionPart}
 use Rattle.nodes.specs.declared.option.OptionPart.the-variants as P
 use Rattle.nodes.specs.declared.attr.AttrDelta.{AttrDelta}
-use Rattle.nodes.specs.declared.delta.NodeDelta.{NodeDelta}
+use Rattle.deltas.specs.declared.delta.NodeDelta.{NodeDelta}
 use Rattle.nodes.specs.declared.node.InodeMeta.{InodeMeta}
 use Rattle.nodes.specs.declared.node.NodeKind.{NodeKind}
 use Rattle.nodes.specs.declared.node.NodeKind.the-variants as K

@@ -11,23 +11,23 @@ use Rattle.wire.specs.Put.{Put}
 use Rattle.image.specs.Meaning as M
 use Rattle.image.specs.Meaning.{Entries, Attributes, kindOf, changedKind}
 use Rattle.image.specs.NodeLayout.{bodyPart, bodyPartOf, node}
-use Rattle.image.specs.declared.batch.InodeLayerStack.{InodeLayerStack}
+use Rattle.survey.specs.declared.batch.InodeLayerStack.{InodeLayerStack}
 use Rattle.rules.specs.Initial.{usual}
 use Rattle.rules.specs.Fold.{foldRecord, sameKind, applied}
 use Rattle.rules.specs.PlacedStacks.{unplaced, unplacedNode}
 use Rattle.rules.proofs.Folded.{folded}
-use Rattle.nodes.specs.Deltas.{changeMeant, deltaMeant, entryMeant}
+use Rattle.deltas.specs.Deltas.{changeMeant, deltaMeant, entryMeant}
 use Rattle.nodes.specs.Nodes.{bodyMeant}
-use Rattle.nodes.specs.declared.delta.NodeDelta.{NodeDelta}
-use Rattle.nodes.specs.declared.delta.EntryDelta.{EntryDelta}
-use Rattle.nodes.specs.declared.delta.EntryDelta.the-variants as E
+use Rattle.deltas.specs.declared.delta.NodeDelta.{NodeDelta}
+use Rattle.deltas.specs.declared.delta.EntryDelta.{EntryDelta}
+use Rattle.deltas.specs.declared.delta.EntryDelta.the-variants as E
 use Rattle.nodes.specs.declared.node.NodeKind.{NodeKind}
 use Rattle.nodes.specs.declared.node.Node.{Node}
 use Rattle.attrs.specs.Meant.{kindMeant}
 use Rattle.attrs.specs.declared.node.FileType.{FileType}
-use Rattle.layers.specs.Stacks.{Stacked, recordsIn, nodeIn}
-use Rattle.layers.specs.declared.stack.OptionNode.{OptionNode}
-use Rattle.layers.specs.declared.stack.OptionNode.the-variants as O
+use Rattle.stack.specs.Stacks.{Stacked, recordsIn, nodeIn}
+use Rattle.stack.specs.declared.stack.OptionNode.{OptionNode}
+use Rattle.stack.specs.declared.stack.OptionNode.the-variants as O
 use Rattle.fold.specs.Folded.{bodyWith, nodeWith}
 use Rattle.fold.specs.Lists.{attributesOf, entriesOf}
 

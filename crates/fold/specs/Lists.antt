@@ -7,11 +7,11 @@ use Rattle.wire.specs.Number.{edge, numberBytes}
 use Rattle.wire.specs.Combinators.{_then_}
 use Rattle.image.specs.Meaning.{Text, Entries, Attributes}
 use Rattle.image.specs.FieldLayout.{name, inode, value}
-use Rattle.image.specs.declared.batch.InodeLayerStack.{InodeLayerStack}
+use Rattle.survey.specs.declared.batch.InodeLayerStack.{InodeLayerStack}
 use Rattle.rules.specs.Starts.{Started}
 use Rattle.rules.proofs.MapValues.{mapValues}
 use Rattle.attrs.specs.declared.node.FileType.{FileType}
-use Rattle.layers.specs.Stacks.{recordsIn, nodeIn}
+use Rattle.stack.specs.Stacks.{recordsIn, nodeIn}
 use Rattle.merge.specs.Pile.{merged, itself}
 use Rattle.merge.specs.Sources.{Given}
 use Rattle.merge.specs.Merges.{Ready, givenBy}

@@ -1,6 +1,6 @@
 // The node of a stack with its records folded in, and how it is written.
 ghost use Rattle.wire.specs.Put.{Put};
-ghost use Rattle.layers.specs.Stacks.{Stacked};
+ghost use Rattle.stack.specs.Stacks.{Stacked};
 ghost use Rattle.fold.specs.Lists.{entriesOf};
 ghost use Rattle.fold.specs.FoldedNodes.{FoldsDelta, StartsNode, FoldsRecord, ShowsIf, foldedIn, FoldsTo, bodyWritten, Merged, CopiesNode, bytesIf};
 use crate::list::put_attributes;
@@ -9,14 +9,14 @@ use crate::node::apply_to_node;
 use crate::node::initial_node;
 use attrs::node::kind_type;
 use gather::gather::of_type;
-use image::batch::InodeLayerStack;
+use survey::batch::InodeLayerStack;
 use image::inode::Place;
 use image::node::pass_node;
-use layers::stack::OptionNode;
-use layers::stack::base_node;
-use layers::stack::record_at;
-use nodes::delta::EntryDelta;
-use nodes::delta::NodeDelta;
+use stack::stack::OptionNode;
+use stack::stack::base_node;
+use stack::stack::record_at;
+use deltas::delta::EntryDelta;
+use deltas::delta::NodeDelta;
 use nodes::node::Node;
 use nodes::node::NodeKind;
 use records::write_attr::put_inode_meta;

@@ -14,16 +14,16 @@ use Rattle.image.specs.Meaning as M
 use Rattle.image.specs.Meaning.{changedKind}
 use Rattle.image.specs.declared.name.Under.{Under}
 use Rattle.image.specs.declared.name.Under.the-variants as U
-use Rattle.image.specs.declared.batch.InodeLayerStack.{InodeLayerStack}
+use Rattle.survey.specs.declared.batch.InodeLayerStack.{InodeLayerStack}
 use Rattle.image.specs.Held.{placeOf}
 use Rattle.image.specs.NodeLayout.{node}
 use Rattle.image.specs.RecordLayout.{fields, layerRecord}
 use Rattle.wire.specs.Orders.{byBytes}
 use Rattle.nodes.specs.declared.part.Part.{Part}
-use Rattle.nodes.specs.declared.delta.NodeDelta.{NodeDelta}
-use Rattle.nodes.specs.declared.delta.NodeDelta.the-variants as D
-use Rattle.nodes.specs.declared.delta.EntryDelta.{EntryDelta}
-use Rattle.nodes.specs.declared.delta.EntryDelta.the-variants as E
+use Rattle.deltas.specs.declared.delta.NodeDelta.{NodeDelta}
+use Rattle.deltas.specs.declared.delta.NodeDelta.the-variants as D
+use Rattle.deltas.specs.declared.delta.EntryDelta.{EntryDelta}
+use Rattle.deltas.specs.declared.delta.EntryDelta.the-variants as E
 use Rattle.nodes.specs.declared.node.Node.{Node}
 use Rattle.nodes.specs.declared.node.NodeKind.{NodeKind}
 use Rattle.nodes.specs.declared.node.NodeKind.the-variants as K
@@ -32,7 +32,7 @@ use Rattle.nodes.specs.declared.option.OptionPart.the-variants as P
 use Rattle.nodes.specs.Options.{numberOf}
 use Rattle.nodes.specs.Listed.{byName, listAt, listOf, Listed, ListedIf}
 use Rattle.nodes.specs.Attrs.{fieldsMeant}
-use Rattle.nodes.specs.Deltas.{attrOf, changeMeant, deltaMeant, ChangeListed, ReadsEntry}
+use Rattle.deltas.specs.Deltas.{attrOf, changeMeant, deltaMeant, ChangeListed, ReadsEntry}
 use Rattle.nodes.specs.Nodes.{metaMeant, bodyMeant, nodeMeant, EntriesListed, ReadsNode}
 use Rattle.rules.specs.Fold.{sameKind}
 use Rattle.rules.specs.Starts.{entriesAt, addedAt}
@@ -42,18 +42,18 @@ use Rattle.merge.specs.Pile.{rowsOf}
 use Rattle.merge.specs.Sources.{Decided, listRows}
 use Rattle.merge.specs.Merges.{sourcesOf, Whole, NoSources, Pushes, Ready}
 use Rattle.gather.specs.Lists.{changeLists, alterLists, deltaLists, recordLists, isTombstone, entryLists, nodeLists, baseLists}
-use Rattle.layers.specs.Stacks.{Stacked, recordsUnder, recordsIn, nodeIn, RecordIs, NodeIs, BaseIs}
+use Rattle.stack.specs.Stacks.{Stacked, recordsUnder, recordsIn, nodeIn, RecordIs, NodeIs, BaseIs}
 use Rattle.gather.specs.declared.gather.Lists.{Lists}
 use Rattle.gather.specs.declared.gather.Lists.the-variants as L
-use Rattle.layers.specs.declared.stack.OptionNode.{OptionNode}
-use Rattle.layers.specs.declared.stack.OptionNode.the-variants as O
+use Rattle.stack.specs.declared.stack.OptionNode.{OptionNode}
+use Rattle.stack.specs.declared.stack.OptionNode.the-variants as O
 use Rattle.merge.specs.declared.merge.Sources.{Sources}
 use Rattle.merge.proofs.Lists.{pileRows, rows-append, sourceOf, list-are, pile-ascends}
 use Rattle.wire.specs.Lists.{Every}
 use Rattle.gather.proofs.Shorts.{every-append, delta-short, base-short}
 use Rattle.gather.specs.Gathers.{Short, bodyPile, nodePile, changePile, alterPile, deltaPile, recordPile, pileOf, Gathers}
 use Rattle.attrs.specs.Meant.{kindMeant}
-use Rattle.layers.proofs.Walks.{records-more}
+use Rattle.stack.proofs.Walks.{records-more}
 
 -- ---- what the lists of a record and of a node mean
 

@@ -8,11 +8,11 @@ use types.Run.{OneOf}
 use lib.Dec.{eqb}
 use Rattle.image.specs.Meaning.{Kind, kindNumber}
 use Rattle.rules.specs.Fold.{sameKind}
-use Rattle.nodes.specs.declared.delta.NodeDelta.{NodeDelta}
+use Rattle.deltas.specs.declared.delta.NodeDelta.{NodeDelta}
 use Rattle.nodes.specs.declared.node.NodeKind.{NodeKind}
-use Rattle.nodes.proofs.delta.NodeDelta as delta
+use Rattle.deltas.proofs.delta.NodeDelta as delta
 use Rattle.nodes.proofs.node.NodeKind as kind
-use Rattle.nodes.proofs.Others.{one-delta, one-kind, notDirectory}
+use Rattle.deltas.proofs.Others.{one-delta, one-kind, notDirectory}
 use Rattle.gather.specs.Lists.{changeLists, entryLists}
 
 pub other-lists : (img : List ℕ) (n : NodeDelta) → OneOf notDirectory (tagOf delta.the-type n) → changeLists img n ≡ []

@@ -17,17 +17,17 @@ use Rattle.image.specs.declared.name.Under.{Under}
 use Rattle.image.specs.declared.name.Under.the-variants as U
 use Rattle.rules.specs.Fold.{sameKind}
 use Rattle.attrs.specs.Meant.{kindMeant}
-use Rattle.nodes.specs.declared.delta.NodeDelta.{NodeDelta}
-use Rattle.nodes.specs.declared.delta.NodeDelta.the-variants as D
+use Rattle.deltas.specs.declared.delta.NodeDelta.{NodeDelta}
+use Rattle.deltas.specs.declared.delta.NodeDelta.the-variants as D
 use Rattle.nodes.specs.declared.node.Node.{Node}
 use Rattle.nodes.specs.declared.node.NodeKind.{NodeKind}
 use Rattle.nodes.specs.declared.node.NodeKind.the-variants as K
 use Rattle.nodes.specs.declared.option.OptionPart.{OptionPart}
 use Rattle.nodes.specs.declared.option.OptionPart.the-variants as P
-use Rattle.nodes.specs.Deltas.{attrOf, changeMeant}
+use Rattle.deltas.specs.Deltas.{attrOf, changeMeant}
 use Rattle.merge.specs.Sources.{Decided, decided, rowsIf, rowsFrom, listRows}
-use Rattle.layers.specs.declared.stack.OptionNode.{OptionNode}
-use Rattle.layers.specs.declared.stack.OptionNode.the-variants as O
+use Rattle.stack.specs.declared.stack.OptionNode.{OptionNode}
+use Rattle.stack.specs.declared.stack.OptionNode.the-variants as O
 use Rattle.gather.specs.Lists.{changeLists, alterLists, deltaLists, entryLists, nodeLists, baseLists}
 use Rattle.gather.specs.Gathers.{Short}
 use Rattle.gather.specs.declared.gather.Lists.{Lists}

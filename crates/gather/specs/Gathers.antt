@@ -9,7 +9,7 @@ use lib.ListN.{length}
 use Rattle.image.specs.Meaning.{Entries, Body, Meta, Node, Changes, Fields, Change, Delta, Record, directory, file, symlink, special, tombstone, delta, changedKind}
 use Rattle.image.specs.FieldLayout.{entries}
 use Rattle.image.specs.declared.name.Under.the-variants as U
-use Rattle.image.specs.declared.batch.InodeLayerStack.{InodeLayerStack}
+use Rattle.survey.specs.declared.batch.InodeLayerStack.{InodeLayerStack}
 use Rattle.rules.specs.Starts.{Placed, attributesAt, entriesAt, changesAt, addedAt}
 use Rattle.rules.specs.Fold.{sameKind}
 use Rattle.attrs.specs.Meant.{kindMeant}
@@ -18,7 +18,7 @@ use Rattle.merge.specs.Sources.{Decided}
 use Rattle.merge.specs.Merges.{sourcesOf, Whole}
 use Rattle.merge.proofs.Lists.{Deciding, pileRows, sourceOf}
 use Rattle.merge.specs.declared.merge.Sources.{Sources}
-use Rattle.layers.specs.Stacks.{recordsIn, nodeIn}
+use Rattle.stack.specs.Stacks.{recordsIn, nodeIn}
 use Rattle.gather.specs.declared.gather.Lists.{Lists}
 use Rattle.gather.specs.declared.gather.Lists.the-variants as L
 

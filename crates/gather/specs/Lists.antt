@@ -4,21 +4,21 @@ use mathlib.Core.List.{List, [], _∷_}
 use Prim.Native.Nat.{ℕ}
 use Rattle.image.specs.Meaning.{Kind, changedKind}
 use Rattle.image.specs.declared.name.Under.the-variants as U
-use Rattle.nodes.specs.declared.delta.NodeDelta.{NodeDelta}
-use Rattle.nodes.specs.declared.delta.NodeDelta.the-variants as D
-use Rattle.nodes.specs.declared.delta.EntryDelta.{EntryDelta}
-use Rattle.nodes.specs.declared.delta.EntryDelta.the-variants as E
+use Rattle.deltas.specs.declared.delta.NodeDelta.{NodeDelta}
+use Rattle.deltas.specs.declared.delta.NodeDelta.the-variants as D
+use Rattle.deltas.specs.declared.delta.EntryDelta.{EntryDelta}
+use Rattle.deltas.specs.declared.delta.EntryDelta.the-variants as E
 use Rattle.nodes.specs.declared.node.Node.{Node}
 use Rattle.nodes.specs.declared.node.NodeKind.{NodeKind}
 use Rattle.nodes.specs.declared.node.NodeKind.the-variants as K
 use Rattle.nodes.specs.declared.option.OptionPart.{OptionPart}
-use Rattle.nodes.specs.Deltas.{attrOf, changeMeant}
+use Rattle.deltas.specs.Deltas.{attrOf, changeMeant}
 use Rattle.rules.specs.Fold.{sameKind}
 use Rattle.attrs.specs.Meant.{kindMeant}
 use Rattle.merge.specs.Sources.{Decided, listRows}
 use Rattle.merge.specs.Merges.{listsIf}
-use Rattle.layers.specs.declared.stack.OptionNode.{OptionNode}
-use Rattle.layers.specs.declared.stack.OptionNode.the-variants as O
+use Rattle.stack.specs.declared.stack.OptionNode.{OptionNode}
+use Rattle.stack.specs.declared.stack.OptionNode.the-variants as O
 use Rattle.gather.specs.declared.gather.Lists.{Lists}
 use Rattle.gather.specs.declared.gather.Lists.the-variants as L
 

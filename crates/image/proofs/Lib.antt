@@ -4,6 +4,3 @@ pub mod Names
 pub mod Constructs
 pub mod Inodes
 pub mod Holding
-pub mod Batches
-pub mod Stores
-pub mod Surveyed

@@ -11,7 +11,4 @@ pub mod NodeLayout
 pub mod RecordLayout
 pub mod Held
 pub mod StoreLayout
-pub mod Gathering
-pub mod Survey
 pub mod RoundTrip
-pub mod Verdict

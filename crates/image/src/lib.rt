@@ -1,9 +1,7 @@
 // The layout of the image: readers that judge and pass over each construct, and what is gathered on the way.
-pub mod batch;
 pub mod field;
 pub mod inode;
 pub mod kind;
 pub mod name;
 pub mod node;
 pub mod record;
-pub mod store;

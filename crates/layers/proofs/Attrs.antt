@@ -6,25 +6,25 @@ use mathlib.Core.Option.{Option, none, some}
 use Prim.Native.Nat.{ℕ, _+_, _<_, _≤_}
 use native.Mathlib.Omega.{arith}
 use lib.ListN.{getD}
-use Rattle.image.specs.declared.batch.InodeLayerStack.{InodeLayerStack}
+use Rattle.survey.specs.declared.batch.InodeLayerStack.{InodeLayerStack}
 use Rattle.image.specs.Held.{placeOf}
 use Rattle.rules.specs.Initial.{usual}
 use Rattle.rules.specs.FileAttrs.{FileAttr, attributes, baseAttr, stepAttr}
 use Rattle.nodes.specs.declared.node.NodeKind.{NodeKind}
 use Rattle.nodes.specs.declared.node.NodeKind.the-variants as K
-use Rattle.nodes.specs.declared.delta.NodeDelta.{NodeDelta}
-use Rattle.nodes.specs.declared.delta.NodeDelta.the-variants as D
-use Rattle.nodes.specs.declared.delta.EntryDelta.{EntryDelta}
-use Rattle.nodes.specs.declared.delta.EntryDelta.the-variants as E
+use Rattle.deltas.specs.declared.delta.NodeDelta.{NodeDelta}
+use Rattle.deltas.specs.declared.delta.NodeDelta.the-variants as D
+use Rattle.deltas.specs.declared.delta.EntryDelta.{EntryDelta}
+use Rattle.deltas.specs.declared.delta.EntryDelta.the-variants as E
 use Rattle.nodes.specs.Nodes.{EntriesListed}
-use Rattle.nodes.specs.Deltas.{entryMeant, ChangeListed, EntryListed}
+use Rattle.deltas.specs.Deltas.{entryMeant, ChangeListed, EntryListed}
 use Rattle.attrs.specs.Attrs.{TargetIn, LinkIn}
-use Rattle.layers.specs.declared.stack.OptionNode.{OptionNode}
-use Rattle.layers.specs.declared.stack.OptionNode.the-variants as O
+use Rattle.stack.specs.declared.stack.OptionNode.{OptionNode}
+use Rattle.stack.specs.declared.stack.OptionNode.the-variants as O
 use Rattle.layers.specs.declared.attr.OptionAttr.{OptionAttr}
 use Rattle.layers.specs.Attrs.{EntryTargetIn, BaseLinkIn, attrIf}
-use Rattle.layers.specs.Stacks.{Stacked, shownUnder, shown, RecordIs, BaseIs, nodeMeantIf}
-use Rattle.layers.proofs.Walks.{shown-base, shown-more}
+use Rattle.stack.specs.Stacks.{Stacked, shownUnder, shown, RecordIs, BaseIs, nodeMeantIf}
+use Rattle.stack.proofs.Walks.{shown-base, shown-more}
 
 -- ---- targets are inside the image
 

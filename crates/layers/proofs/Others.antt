@@ -8,13 +8,13 @@ use denote.Enum.Declared.{tagOf}
 use types.Run.{OneOf}
 use Rattle.image.specs.Meaning.{Text}
 use Rattle.rules.specs.Reads.{bodyText, changeText, bodyParent, changeParent, bodyChild, changeChild}
-use Rattle.nodes.specs.declared.delta.NodeDelta.{NodeDelta}
+use Rattle.deltas.specs.declared.delta.NodeDelta.{NodeDelta}
 use Rattle.nodes.specs.declared.node.NodeKind.{NodeKind}
 use Rattle.nodes.specs.Nodes.{bodyMeant}
-use Rattle.nodes.specs.Deltas.{changeMeant}
-use Rattle.nodes.proofs.delta.NodeDelta as delta
+use Rattle.deltas.specs.Deltas.{changeMeant}
+use Rattle.deltas.proofs.delta.NodeDelta as delta
 use Rattle.nodes.proofs.node.NodeKind as kind
-use Rattle.nodes.proofs.Others.{one-delta, one-kind, notDirectory, notSymlink}
+use Rattle.deltas.proofs.Others.{one-delta, one-kind, notDirectory, notSymlink}
 
 -- ---- all but a directory
 

@@ -9,8 +9,6 @@ use Rattle.image.specs.Meaning.{Kind}
 use Rattle.rules.specs.Answers.{Answer, refused, answer}
 use Rattle.rules.specs.FileAttrs as R
 use Rattle.attrs.specs.Meant.{kindMeant, attrMeant}
-use Rattle.layers.specs.declared.file_type.OptionType.{OptionType}
-use Rattle.layers.specs.declared.file_type.OptionType.the-variants as M
 use Rattle.layers.specs.declared.answer.YesNo.{YesNo}
 use Rattle.layers.specs.declared.answer.YesNo.the-variants as Y
 use Rattle.layers.specs.declared.answer.TypeAnswer.{TypeAnswer}
@@ -27,10 +25,6 @@ abbrev pub yesNo : YesNo → Answer Bool
 yesNo (Y.Refused n) = refused n
 yesNo Y.No = answer false
 yesNo Y.Yes = answer true
-
-abbrev pub typeOf : OptionType → Option Kind
-typeOf (M.Some t) = some (kindMeant t)
-typeOf M.None = none
 
 -- "'None' is an answer."
 abbrev pub typeAnswered : TypeAnswer → Answer (Option Kind)

@@ -3,12 +3,12 @@ use mathlib.Core.List.{List}
 use mathlib.Core.Option.{Option, none, some}
 use Prim.Native.Nat.{ℕ}
 use Rattle.rules.specs.FileAttrs.{FileAttr}
-use Rattle.nodes.specs.declared.delta.EntryDelta.{EntryDelta}
-use Rattle.nodes.specs.declared.delta.EntryDelta.the-variants as E
+use Rattle.deltas.specs.declared.delta.EntryDelta.{EntryDelta}
+use Rattle.deltas.specs.declared.delta.EntryDelta.the-variants as E
 use Rattle.attrs.specs.Meant.{attrMeant}
 use Rattle.attrs.specs.Attrs.{TargetIn, LinkIn}
-use Rattle.layers.specs.declared.stack.OptionNode.{OptionNode}
-use Rattle.layers.specs.declared.stack.OptionNode.the-variants as N
+use Rattle.stack.specs.declared.stack.OptionNode.{OptionNode}
+use Rattle.stack.specs.declared.stack.OptionNode.the-variants as N
 use Rattle.layers.specs.declared.attr.OptionAttr.{OptionAttr}
 use Rattle.layers.specs.declared.attr.OptionAttr.the-variants as A
 

@@ -5,21 +5,21 @@ ghost use Prim.Native.Nat.{ℕ};
 ghost use Rattle.rules.specs.Initial.{usual};
 ghost use Rattle.rules.specs.FileAttrs.{attributes, baseAttr, stepAttr};
 ghost use Rattle.rules.specs.ReadCalls.{attr};
-ghost use Rattle.nodes.specs.Deltas.{entryMeant};
+ghost use Rattle.deltas.specs.Deltas.{entryMeant};
 ghost use Rattle.layers.specs.Attrs.{EntryTargetIn, BaseLinkIn, attrIf};
 ghost use Rattle.layers.specs.Answered.{attrAnswered};
-ghost use Rattle.layers.specs.Stacks.{Stacked, shown, nodeMeantIf};
+ghost use Rattle.stack.specs.Stacks.{Stacked, shown, nodeMeantIf};
 use crate::answer::AttrAnswer;
-use crate::stack::OptionNode;
-use crate::stack::base_node;
-use crate::stack::open_image;
-use crate::stack::record_at;
+use stack::stack::OptionNode;
+use stack::stack::base_node;
+use stack::stack::open_image;
+use stack::stack::record_at;
 use attrs::attr::applied;
 use attrs::attr::initial_attr;
 use attrs::attr::node_attr;
 use attrs::node::FileAttr;
-use image::batch::InodeLayerStack;
-use nodes::delta::EntryDelta;
+use survey::batch::InodeLayerStack;
+use deltas::delta::EntryDelta;
 
 pub enum OptionAttr {
     Some(FileAttr),

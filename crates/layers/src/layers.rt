@@ -1,24 +1,23 @@
 // The reads of one inode's stack, and the calls over an image that answer by them.
 ghost use mathlib.Core.Path.{_≡_};
 ghost use Rattle.rules.specs.Initial.{usual};
-ghost use Rattle.rules.specs.Reads.{type, linkText, parent};
+ghost use Rattle.rules.specs.Reads.{linkText, parent};
 ghost use Rattle.rules.specs.ReadCalls.{exists, fileType, readLink, hasLink, parentDirInode, textOf};
 ghost use Rattle.nodes.specs.Options.{numberOf, textOf as textMeant};
-ghost use Rattle.layers.specs.Stacks.{Stacked, shown};
-ghost use Rattle.layers.specs.Answered.{yesNo, typeOf, typeAnswered, inodeAnswered};
+ghost use Rattle.stack.specs.Stacks.{Stacked, shown};
+ghost use Rattle.layers.specs.Answered.{yesNo, typeAnswered, inodeAnswered};
 use crate::answer::InodeAnswer;
 use crate::answer::TypeAnswer;
 use crate::answer::YesNo;
-use crate::file_type::OptionType;
-use crate::file_type::base_type;
-use crate::file_type::entry_type;
-use crate::stack::OptionNode;
-use crate::stack::base_node;
-use crate::stack::open_image;
-use crate::stack::record_at;
-use image::batch::InodeLayerStack;
-use nodes::delta::EntryDelta;
-use nodes::delta::NodeDelta;
+use stack::file_type::OptionType;
+use stack::file_type::type_in;
+use stack::stack::OptionNode;
+use stack::stack::base_node;
+use stack::stack::open_image;
+use stack::stack::record_at;
+use survey::batch::InodeLayerStack;
+use deltas::delta::EntryDelta;
+use deltas::delta::NodeDelta;
 use nodes::node::NodeKind;
 use nodes::option::OptionPart;
 use nodes::option::OptionU64;
@@ -109,20 +108,6 @@ pub fn has_link(img: &[u8], ino: u64) -> YesNo
         OptionPart::Some(_) => YesNo::Yes,
         OptionPart::None => YesNo::No,
     }
-}
-
-// The topmost record decides; with none, the base.
-pub fn type_in(img: &[u8], stack: InodeLayerStack) -> OptionType
-    requires { ⌜ Stacked (now img) stack ⌝ }
-    ensures { λ r. ⌜ typeOf r ≡ shown type (now (img .entry)) stack ⌝ }
-{
-    let count = stack.count;
-    if count == 0 {
-        let base = base_node(img, stack);
-        return base_type(base);
-    }
-    let entry = record_at(img, stack, count - 1);
-    entry_type(entry)
 }
 
 // From the top: the first directory delta with a parent; a tombstone or another kind, none; then a base directory's.

@@ -1,6 +1,4 @@
 -- Laws that the proofs of more than one function use, and that the crates above cite.
 pub mod Reading
 pub mod Values
-pub mod Deltas
 pub mod Nodes
-pub mod Others

@@ -2,5 +2,4 @@
 pub mod Options
 pub mod Listed
 pub mod Attrs
-pub mod Deltas
 pub mod Nodes

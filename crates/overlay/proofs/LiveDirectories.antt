@@ -12,10 +12,10 @@ use Rattle.image.specs.Meaning.{Record, tombstone}
 use Rattle.image.specs.RecordLayout.{layerRecord}
 use Rattle.image.specs.Places.{Holds}
 use Rattle.image.specs.declared.inode.Place.the-variants as P
-use Rattle.nodes.specs.Deltas.{entryMeant, AttrListed, EntryListed, ReadsEntry}
-use Rattle.nodes.specs.declared.delta.NodeDelta.the-variants.{Directory, File, Symlink, Fifo, CharDevice, BlockDevice, Socket}
-use Rattle.nodes.specs.declared.delta.EntryDelta.{EntryDelta}
-use Rattle.nodes.specs.declared.delta.EntryDelta.the-variants as E
+use Rattle.deltas.specs.Deltas.{entryMeant, AttrListed, EntryListed, ReadsEntry}
+use Rattle.deltas.specs.declared.delta.NodeDelta.the-variants.{Directory, File, Symlink, Fifo, CharDevice, BlockDevice, Socket}
+use Rattle.deltas.specs.declared.delta.EntryDelta.{EntryDelta}
+use Rattle.deltas.specs.declared.delta.EntryDelta.the-variants as E
 use Rattle.overlay.specs.Directories.{bareDelta, directoryOf, IsDirectory, Lives, LivesAt}
 use Rattle.overlay.specs.declared.delta.LiveDirectory.the-variants as D
 

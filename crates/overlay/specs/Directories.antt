@@ -23,11 +23,11 @@ use Rattle.nodes.specs.declared.option.OptionU64.the-variants as I
 use Rattle.nodes.specs.declared.option.OptionTime.the-variants as T
 use Rattle.nodes.specs.declared.option.OptionPart.{OptionPart}
 use Rattle.nodes.specs.declared.option.OptionPart.the-variants as P
-use Rattle.nodes.specs.declared.delta.DirectoryDelta.{DirectoryDelta}
-use Rattle.nodes.specs.declared.delta.NodeDelta.{NodeDelta}
-use Rattle.nodes.specs.declared.delta.NodeDelta.the-variants.{Directory, File, Symlink, Fifo, CharDevice, BlockDevice, Socket}
-use Rattle.nodes.specs.declared.delta.EntryDelta.{EntryDelta}
-use Rattle.nodes.specs.declared.delta.EntryDelta.the-variants as E
+use Rattle.deltas.specs.declared.delta.DirectoryDelta.{DirectoryDelta}
+use Rattle.deltas.specs.declared.delta.NodeDelta.{NodeDelta}
+use Rattle.deltas.specs.declared.delta.NodeDelta.the-variants.{Directory, File, Symlink, Fifo, CharDevice, BlockDevice, Socket}
+use Rattle.deltas.specs.declared.delta.EntryDelta.{EntryDelta}
+use Rattle.deltas.specs.declared.delta.EntryDelta.the-variants as E
 use Rattle.rules.specs.Changes.{DirectoryChange, onDelta, onDirectory}
 use Rattle.rules.specs.Queue.{onLive}
 use Rattle.change.specs.Sections.{Stands}

@@ -16,8 +16,8 @@ use change::cut::Cut;
 use change::cut::count_with;
 use change::cut::cut_records;
 use change::section::open_sections;
-use nodes::delta::EntryDelta;
-use nodes::delta::read_entry_delta;
+use deltas::delta::EntryDelta;
+use deltas::delta::read_entry_delta;
 use wire::cursor::Cursor;
 
 // Replaces the live record by the delta given, a record from its code on.

@@ -21,7 +21,7 @@ use Rattle.image.specs.FieldLayout.{inode}
 use Rattle.image.specs.NodeLayout.{base}
 use Rattle.image.specs.RecordLayout.{layerRecord, records}
 use Rattle.image.specs.StoreLayout.{batches}
-use Rattle.image.specs.Gathering.{batchHead}
+use Rattle.survey.specs.Gathering.{batchHead}
 use Rattle.image.specs.RoundTrip.{writeImage}
 use Rattle.records.specs.Batches.{headMeant}
 use Rattle.records.specs.Tails.{TailParts, tail, tailMeant}

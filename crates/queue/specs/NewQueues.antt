@@ -3,7 +3,7 @@ use mathlib.Core.List.{List, _++_}
 use Prim.Native.Nat.{ℕ}
 use lib.ListN.{length}
 use Rattle.wire.specs.Number.{numberBytes}
-use Rattle.image.specs.Gathering.{batchHead}
+use Rattle.survey.specs.Gathering.{batchHead}
 use Rattle.records.specs.Batches.{headMeant}
 use Rattle.records.specs.Tails.{tail as tailCodec, tailMeant}
 use Rattle.records.specs.declared.tail.Tail.{Tail}

@@ -12,16 +12,16 @@ use Rattle.image.specs.KindLayout.{kind, code}
 use Rattle.image.specs.NodeLayout.{bodyPart, bodyPartOf, node}
 use Rattle.image.specs.RecordLayout.{changes, changePart, changePartOf, layerRecord}
 use Rattle.nodes.specs.Listed.{listAt, listOf, ListedIf, Listed}
-use Rattle.nodes.specs.Deltas.{attrOf, changeMeant, entryMeant, ChangeListed, AttrListed, EntryListed}
+use Rattle.deltas.specs.Deltas.{attrOf, changeMeant, entryMeant, ChangeListed, AttrListed, EntryListed}
 use Rattle.nodes.specs.Nodes.{bodyMeant, nodeMeant, EntriesListed}
 use Rattle.records.specs.Writes.{attrBytes, metaBytes, fields-bytes, meta-bytes}
 use Rattle.records.specs.Records.{listBytes, changeBytes, entryBytes, bodyBytes, nodeBytes}
 use Rattle.nodes.specs.declared.option.OptionPart.{OptionPart}
 use Rattle.nodes.specs.declared.option.OptionPart.the-variants as P
-use Rattle.nodes.specs.declared.delta.NodeDelta.{NodeDelta}
-use Rattle.nodes.specs.declared.delta.NodeDelta.the-variants.{Directory, File, Symlink, Fifo, CharDevice, BlockDevice, Socket}
-use Rattle.nodes.specs.declared.delta.EntryDelta.{EntryDelta}
-use Rattle.nodes.specs.declared.delta.EntryDelta.the-variants as E
+use Rattle.deltas.specs.declared.delta.NodeDelta.{NodeDelta}
+use Rattle.deltas.specs.declared.delta.NodeDelta.the-variants.{Directory, File, Symlink, Fifo, CharDevice, BlockDevice, Socket}
+use Rattle.deltas.specs.declared.delta.EntryDelta.{EntryDelta}
+use Rattle.deltas.specs.declared.delta.EntryDelta.the-variants as E
 use Rattle.nodes.specs.declared.node.NodeKind.{NodeKind}
 use Rattle.nodes.specs.declared.node.NodeKind.the-variants as K
 use Rattle.nodes.specs.declared.node.Node.{Node}

@@ -7,16 +7,16 @@ use Rattle.image.specs.Meaning.{kindNumber, kindOf, changedKind}
 use Rattle.image.specs.Masks.{maybe}
 use Rattle.image.specs.FieldLayout.{inode, size, target}
 use Rattle.nodes.specs.Options.{numberOf, textAt, textOf}
-use Rattle.nodes.specs.Deltas.{attrOf, changeMeant}
+use Rattle.deltas.specs.Deltas.{attrOf, changeMeant}
 use Rattle.nodes.specs.Nodes.{bodyMeant}
 use Rattle.records.specs.Writes.{attrBytes, metaBytes}
 use Rattle.nodes.specs.declared.option.OptionPart.{OptionPart}
 use Rattle.nodes.specs.declared.option.OptionPart.the-variants as P
-use Rattle.nodes.specs.declared.delta.DirectoryDelta.{DirectoryDelta}
-use Rattle.nodes.specs.declared.delta.NodeDelta.{NodeDelta}
-use Rattle.nodes.specs.declared.delta.NodeDelta.the-variants.{Directory, File, Symlink, Fifo, CharDevice, BlockDevice, Socket}
-use Rattle.nodes.specs.declared.delta.EntryDelta.{EntryDelta}
-use Rattle.nodes.specs.declared.delta.EntryDelta.the-variants as E
+use Rattle.deltas.specs.declared.delta.DirectoryDelta.{DirectoryDelta}
+use Rattle.deltas.specs.declared.delta.NodeDelta.{NodeDelta}
+use Rattle.deltas.specs.declared.delta.NodeDelta.the-variants.{Directory, File, Symlink, Fifo, CharDevice, BlockDevice, Socket}
+use Rattle.deltas.specs.declared.delta.EntryDelta.{EntryDelta}
+use Rattle.deltas.specs.declared.delta.EntryDelta.the-variants as E
 use Rattle.nodes.specs.declared.node.NodeKind.{NodeKind}
 use Rattle.nodes.specs.declared.node.NodeKind.the-variants as K
 use Rattle.nodes.specs.declared.node.Node.{Node}

@@ -1,9 +1,9 @@
 // The head of a batch by value.
 ghost use Rattle.wire.specs.Reading.{Reads};
 ghost use Rattle.wire.specs.Put.{Put};
-ghost use Rattle.image.specs.Gathering.{batchHead};
+ghost use Rattle.survey.specs.Gathering.{batchHead};
 ghost use Rattle.records.specs.Batches.{headMeant};
-use image::batch::read_reason;
+use survey::batch::read_reason;
 use wire::cursor::Cursor;
 use wire::number::no_number;
 use wire::number::put_number;

@@ -21,10 +21,10 @@ use Rattle.rules.proofs.MapValues.{mapRow, mapValues, map-rows, get-map, map-em
 use Rattle.rules.proofs.Forgotten.{forgotten, starts-forgotten}
 use Rattle.rows.specs.declared.listing.Listing.{Listing}
 use Rattle.rows.specs.declared.listing.Listing.the-variants as L
-use Rattle.image.specs.declared.batch.InodeLayerStack.{InodeLayerStack}
+use Rattle.survey.specs.declared.batch.InodeLayerStack.{InodeLayerStack}
 use Rattle.gather.specs.declared.gather.Lists.the-variants as G
 use Rattle.gather.specs.Gathers.{removedAt, bodyPile, nodePile, changePile, alterPile, deltaPile, recordPile, pileOf, Gathers}
-use Rattle.layers.specs.Stacks.{recordsIn, nodeIn}
+use Rattle.stack.specs.Stacks.{recordsIn, nodeIn}
 use Rattle.merge.specs.declared.merge.Sources.{Sources}
 use Rattle.merge.specs.Pile.{merged, itself, decisions}
 use Rattle.merge.specs.Sources.{Given, Decided, decided}

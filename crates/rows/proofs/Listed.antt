@@ -9,7 +9,7 @@ use lib.Dec.{ltb}
 use lib.ListN.{length}
 use denote.Enum.Declared.{tagOf}
 use types.Run.{OneOf, miss}
-use Rattle.nodes.proofs.Others.{notDirectory}
+use Rattle.deltas.proofs.Others.{notDirectory}
 use Rattle.wire.specs.Orders.{byNumber}
 use Rattle.wire.specs.Maps.{get}
 use Rattle.image.specs.Meaning.{Kind, Entries, Attributes, directory, file, symlink, special}
@@ -28,15 +28,15 @@ use Rattle.rules.specs.Views.{ifDirectory, listed, valued, viewAt}
 use Rattle.rules.specs.ReadCalls.{Row, mapAnswer, entryRows, attributeRows}
 use Rattle.rules.proofs.PlacedStack.{placed-stack, placed-node}
 use Rattle.rules.proofs.Asked.{over-fine, entry-count, attribute-count}
-use Rattle.layers.specs.Stacks.{Opens, shown, recordsIn, nodeIn}
+use Rattle.stack.specs.Stacks.{Opens, shown, recordsIn, nodeIn}
 use Rattle.rows.specs.Listings.{rowsListed}
 use Rattle.rows.specs.Plans.{isDirectory, isListed, listCall, roomFor, NoRows, Plans}
 use Rattle.layers.specs.declared.answer.RowsAnswer.the-variants as A
 use Rattle.rows.specs.declared.listing.Plan.{Plan}
 use Rattle.rows.specs.declared.listing.Listing.{Listing}
 use Rattle.rows.specs.declared.listing.Listing.the-variants as L
-use Rattle.layers.specs.declared.stack.Opened.{Opened}
-use Rattle.layers.proofs.Opening.{opened-refused, opened-store}
+use Rattle.stack.specs.declared.stack.Opened.{Opened}
+use Rattle.stack.proofs.Opening.{opened-refused, opened-store}
 use Rattle.rows.proofs.Planning.{plan-none}
 
 -- all but a directory

@@ -10,9 +10,9 @@ use lib.Dec.{ltb}
 use lib.ListN.{length, take, drop, getD, set, length-append, length-drop, length-map}
 use lib.Seq.{drop-cons, take-suc, take-length, take-append-seam, set-at, length-take-le}
 use borrow.Author.Tests.{ltb-false}
-use Rattle.image.specs.declared.batch.InodeLayerStack.{InodeLayerStack}
+use Rattle.survey.specs.declared.batch.InodeLayerStack.{InodeLayerStack}
 use Rattle.rules.specs.ReadCalls.{Row}
-use Rattle.layers.specs.Stacks.{recordsIn, nodeIn}
+use Rattle.stack.specs.Stacks.{recordsIn, nodeIn}
 use Rattle.merge.specs.Merges.{NoSources, Ready, decidedRows, rowOfMerge, rowsIfMore, mergeRows, Settles, countOf}
 use Rattle.gather.specs.Gathers.{Gathers}
 use Rattle.rows.specs.Listings.{listsOf, rowsListed}

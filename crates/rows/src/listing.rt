@@ -1,6 +1,6 @@
 // Listings: the rows that the sources of a stack decide.
 ghost use mathlib.Core.Path.{_≡_};
-ghost use Rattle.layers.specs.Stacks.{Stacked, recordsIn, nodeIn};
+ghost use Rattle.stack.specs.Stacks.{Stacked, recordsIn, nodeIn};
 ghost use Rattle.merge.specs.Merges.{Ready};
 ghost use Rattle.rows.specs.Listings.{listsOf, rowsListed};
 ghost use Rattle.rows.specs.Plans.{NoRows, Plans, Fits, Advances, Filled, isDirectory, isListed, listCall, roomFor, planCount, planRow, planAnswer};
@@ -12,11 +12,11 @@ ghost use lib.ListN.{length};
 use attrs::node::FileType;
 use gather::gather::Lists;
 use gather::gather::gather_sources;
-use image::batch::InodeLayerStack;
+use survey::batch::InodeLayerStack;
 use layers::answer::RowsAnswer;
 use layers::attr::OptionAttr;
 use layers::attr::shown_attr;
-use layers::stack::open_image;
+use stack::stack::open_image;
 use merge::merge::Counted;
 use merge::merge::Merge;
 use merge::merge::Sources;

@@ -16,9 +16,9 @@ use Rattle.wire.specs.Lists.{Every}
 use Rattle.image.specs.Meaning.{Text, Kind, Entries, Attributes, Store, directory, file, symlink, special}
 use Rattle.image.specs.StoreLayout.{store}
 use Rattle.image.specs.RoundTrip.{readImage}
-use Rattle.image.specs.Verdict.{refusalOf, refusalNumber, verdictOf, judge}
-use Rattle.image.specs.declared.store.Verdict.{Verdict}
-use Rattle.image.specs.declared.store.Verdict.the-variants as D
+use Rattle.survey.specs.Verdict.{refusalOf, refusalNumber, verdictOf, judge}
+use Rattle.survey.specs.declared.store.Verdict.{Verdict}
+use Rattle.survey.specs.declared.store.Verdict.the-variants as D
 use Rattle.rules.specs.Initial.{Initial}
 use Rattle.rules.specs.Answers.{Answer, refused, firstOf, unless}
 use Rattle.rules.specs.Stacks.{stack, layers}

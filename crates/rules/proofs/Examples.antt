@@ -15,7 +15,7 @@ use Rattle.wire.specs.Maps.{empty, get, put, over, merge, keep}
 use Rattle.image.specs.Meaning.{Text, Fields, Change, Record, Store, directory, file, symlink, special, tombstone, delta}
 use Rattle.image.specs.FieldLayout.{size}
 use Rattle.image.specs.StoreLayout.{batches, store}
-use Rattle.image.specs.Verdict.{refusalOf, verdictOf}
+use Rattle.survey.specs.Verdict.{refusalOf, verdictOf}
 use Rattle.image.specs.RoundTrip.{readImage, writeImage, one-image, cut-image}
 use Rattle.rules.specs.Initial.{usual}
 use Rattle.rules.specs.Fold.{sameKind, foldRecord}

@@ -19,14 +19,14 @@ use Rattle.image.specs.RecordLayout.{layerRecord, records}
 use Rattle.image.specs.StoreLayout.{batches, store}
 use Rattle.image.specs.Places.{passed, Ends, Holds}
 use Rattle.image.specs.Held.{placeOf}
-use Rattle.image.specs.Gathering.{deltasOf}
-use Rattle.image.specs.Survey.{Surveys}
+use Rattle.survey.specs.Gathering.{deltasOf}
+use Rattle.survey.specs.Survey.{Surveys}
 use Rattle.image.specs.RoundTrip.{readImage}
-use Rattle.image.specs.declared.store.Survey.{Survey}
+use Rattle.survey.specs.declared.store.Survey.{Survey}
 use Rattle.image.specs.declared.inode.Place.{Place}
 use Rattle.image.specs.declared.inode.Place.the-variants as P
 use Rattle.image.proofs.Holding.{suffix-drop, suffix-rest}
-use Rattle.image.proofs.Surveyed.{AllHold, ifThere, batchRecords, recordsOf, survey-holds}
+use Rattle.survey.proofs.Surveyed.{AllHold, ifThere, batchRecords, recordsOf, survey-holds}
 use Rattle.rules.specs.Stacks.{over?, stackOn, stack, withLive, layers}
 use Rattle.rules.specs.Starts.{Placed}
 use Rattle.rules.specs.PlacedStacks.{cursorAfter, batchesAt, liveAt, nodePlace, recordPlaces, readAt, nodeAt, onTop, recordsOn, placedRecords, placedNode, unplaced, unplacedNode}

@@ -17,7 +17,7 @@ use Rattle.image.specs.NodeLayout.{meta, node}
 use Rattle.image.specs.RecordLayout.{fields, layerRecord}
 use Rattle.image.specs.StoreLayout.{batches, store}
 use Rattle.image.specs.Places.{placeUnder}
-use Rattle.image.specs.Gathering.{batchPlaces}
+use Rattle.survey.specs.Gathering.{batchPlaces}
 use Rattle.image.specs.Meaning.{directory}
 use Rattle.rules.specs.Initial.{usual}
 use Rattle.rules.specs.Answers.{refused, answer}

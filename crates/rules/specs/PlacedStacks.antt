@@ -15,7 +15,7 @@ use Rattle.image.specs.NodeLayout.{node, base}
 use Rattle.image.specs.RecordLayout.{layerRecord}
 use Rattle.image.specs.StoreLayout.{batches}
 use Rattle.image.specs.Places.{ifRead, placeIn}
-use Rattle.image.specs.Gathering.{listIf, queuePlaces}
+use Rattle.survey.specs.Gathering.{listIf, queuePlaces}
 use Rattle.rules.specs.Changes.{mapIf}
 use Rattle.rules.specs.Starts.{Placed}
 

@@ -18,7 +18,7 @@ use Rattle.wire.specs.Combinators.{opt-write}
 use Rattle.wire.specs.Number.{numberBytes, groups}
 use Rattle.image.specs.declared.name.Under.the-variants as U
 use Rattle.image.specs.declared.inode.Place.the-variants as A
-use Rattle.image.specs.declared.batch.InodeLayerStack.{InodeLayerStack}
+use Rattle.survey.specs.declared.batch.InodeLayerStack.{InodeLayerStack}
 use Rattle.image.specs.Meaning.{Kind, Change, Record, Layer, Batch, Store, directory, file, symlink, special, pipe, character, block, socket, tombstone, delta, kindNumber, changedKind}
 use Rattle.image.specs.Fits.{FitsRecord}
 use Rattle.image.specs.FieldLayout.{inode}
@@ -34,10 +34,10 @@ use Rattle.attrs.specs.Meant.{kindMeant}
 use Rattle.attrs.specs.declared.node.FileType.{FileType}
 use Rattle.records.specs.Writes.{attrBytes, fields-bytes}
 use Rattle.records.proofs.Writing.{list-written}
-use Rattle.layers.specs.Stacks.{StackOf, shown}
-use Rattle.layers.specs.Answered.{typeOf}
-use Rattle.layers.specs.declared.file_type.OptionType.{OptionType}
-use Rattle.layers.specs.declared.file_type.OptionType.the-variants as M
+use Rattle.stack.specs.Stacks.{StackOf, shown}
+use Rattle.stack.specs.Stacks.{typeOf}
+use Rattle.stack.specs.declared.file_type.OptionType.{OptionType}
+use Rattle.stack.specs.declared.file_type.OptionType.the-variants as M
 use Rattle.rules.specs.Initial.{usual}
 use Rattle.rules.specs.Calls.{Call}
 use Rattle.rules.specs.Reads.{type}

@@ -10,14 +10,14 @@ use Rattle.wire.specs.declared.cursor.Cursor.the-variants as C
 use Rattle.image.specs.Meaning.{Delta, Record, Store, tombstone, delta}
 use Rattle.image.specs.Fits.{FitsRecord}
 use Rattle.image.specs.declared.name.Under.the-variants as U
-use Rattle.image.specs.declared.batch.InodeLayerStack.{InodeLayerStack}
+use Rattle.survey.specs.declared.batch.InodeLayerStack.{InodeLayerStack}
 use Rattle.image.specs.RecordLayout.{layerRecord}
 use Rattle.image.specs.RoundTrip.{writeImage}
 use Rattle.nodes.specs.Listed.{ListedIf}
 use Rattle.nodes.specs.Attrs.{fieldsMeant}
 use Rattle.nodes.specs.declared.attr.AttrDelta.{AttrDelta}
 use Rattle.nodes.specs.declared.option.OptionPart.the-variants as P
-use Rattle.layers.specs.Stacks.{StackOf}
+use Rattle.stack.specs.Stacks.{StackOf}
 use Rattle.rules.specs.Changes.{mergeFields, updated}
 use Rattle.rules.specs.Queue.{onLive, typeBelow}
 use Rattle.change.specs.Sections.{Spans, Stands}

@@ -11,10 +11,10 @@ use layers::answer::InodeAnswer;
 use layers::answer::TypeAnswer;
 use layers::answer::YesNo;
 use layers::attr as file_attr;
-use layers::child::lookup_child;
+use lookup::child::lookup_child;
 use layers::layers as reads;
-use layers::xattr::get_xattr;
-use layers::xattr::has_xattr;
+use lookup::xattr::get_xattr;
+use lookup::xattr::has_xattr;
 use wire::part::part;
 
 // The answer of a line that asks for a read; of another line nothing.

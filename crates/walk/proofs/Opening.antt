@@ -27,7 +27,7 @@ use Rattle.image.specs.FieldLayout.{inode, listed}
 use Rattle.image.specs.NodeLayout.{node, base}
 use Rattle.image.specs.RecordLayout.{layerRecord, records}
 use Rattle.image.specs.StoreLayout.{batches}
-use Rattle.image.specs.Gathering.{batchHead}
+use Rattle.survey.specs.Gathering.{batchHead}
 use Rattle.image.specs.Held.{HeldUnder, held}
 use Rattle.image.specs.RoundTrip.{read-fits}
 use Rattle.image.specs.declared.inode.Held.{Held}

@@ -18,16 +18,16 @@ use Rattle.image.specs.Meaning.{Node, Record}
 use Rattle.image.specs.RecordLayout.{layerRecord}
 use Rattle.image.specs.NodeLayout.{node}
 use Rattle.image.specs.Held.{placeOf}
-use Rattle.image.specs.Gathering.{listIf, deltasOf, Pushed}
+use Rattle.survey.specs.Gathering.{listIf, deltasOf, Pushed}
 use Rattle.image.specs.declared.inode.Held.{Held}
 use Rattle.image.specs.declared.inode.Held.the-variants as H
 use Rattle.image.specs.declared.inode.Place.{Place}
-use Rattle.image.specs.declared.batch.InodeLayerStack.{InodeLayerStack}
+use Rattle.survey.specs.declared.batch.InodeLayerStack.{InodeLayerStack}
 use Rattle.rules.specs.Reads.{isThere}
 use Rattle.rules.specs.Starts.{Placed}
 use Rattle.rules.specs.PlacedStacks.{recordsOn, unplaced, unplacedNode, nodeAt}
 use Rattle.rules.proofs.PlacedStack.{records-snoc}
-use Rattle.layers.specs.Stacks.{AllRead, NodeRead, Stacked}
+use Rattle.stack.specs.Stacks.{AllRead, NodeRead, Stacked}
 use Rattle.merge.specs.Pile.{firstKey, pickKey, lower, leastKey, headIf, passAll, Ascend, pile, answer, row}
 use Rattle.merge.proofs.Piles.{pile-step, pile-end, ascend-pass}
 use Rattle.merge.proofs.Merging.{every-replicate, every-set, every-get}

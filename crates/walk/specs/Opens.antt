@@ -11,7 +11,7 @@ use Rattle.wire.specs.Maps.{empty}
 use Rattle.wire.specs.Reading.{Reads, placeAt}
 use Rattle.image.specs.Meaning.{Base, Layer, Batch, Store}
 use Rattle.image.specs.RecordLayout.{records}
-use Rattle.image.specs.Gathering.{batchHead}
+use Rattle.survey.specs.Gathering.{batchHead}
 use Rattle.image.specs.Places as Places
 use Rattle.rules.specs.Stacks.{layers}
 use Rattle.rules.proofs.MapValues.{mapRow}

@@ -10,10 +10,10 @@ use Rattle.wire.specs.Orders.{byNumber}
 use Rattle.wire.specs.Lists.{Every}
 use Rattle.image.specs.Meaning.{Node, Record}
 use Rattle.image.specs.declared.inode.Held.the-variants as H
-use Rattle.image.specs.declared.batch.InodeLayerStack.{InodeLayerStack}
+use Rattle.survey.specs.declared.batch.InodeLayerStack.{InodeLayerStack}
 use Rattle.rules.specs.Reads.{isThere}
 use Rattle.rules.specs.PlacedStacks.{unplaced, unplacedNode}
-use Rattle.layers.specs.Stacks.{Stacked, recordsIn, nodeIn}
+use Rattle.stack.specs.Stacks.{Stacked, recordsIn, nodeIn}
 use Rattle.merge.specs.Pile.{firstKey, lower, leastKey, headIf, passAll, Ascend, pile, answer}
 use Rattle.walk.specs.Runs.{Piece, ofNode, ofRecord, Row, runRows, listRows, Sound}
 use Rattle.walk.specs.declared.run.Run.{Run}

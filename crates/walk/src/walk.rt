@@ -11,8 +11,8 @@ use crate::run::no_run;
 use crate::run::past_inode;
 use crate::run::place_under;
 use crate::run::run_at;
-use image::batch::InodeLayerStack;
-use image::batch::pushed;
+use survey::batch::InodeLayerStack;
+use survey::batch::pushed;
 use image::inode::Held;
 
 // The base, and `count` layers over it, the lowest first.

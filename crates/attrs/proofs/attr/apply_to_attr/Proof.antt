@@ -37,10 +37,10 @@ use denote.Triple.Table.{entered, cited}
 use denote.Triple.Walked.{says, Stays, stay-ref, stay-none, walkOf, goes-none, goes-ref, Walks, ends-at, walked, walk-meets}
 use denote.Exit.{yes}
 use Rattle.attrs.specs.Attrs.{Applies}
-use Rattle.nodes.specs.declared.delta.NodeDelta.{NodeDelta}
+use Rattle.deltas.specs.declared.delta.NodeDelta.{NodeDelta}
 use Rattle.attrs.specs.declared.node.FileAttr.{FileAttr}
-use Rattle.nodes.proofs.delta.NodeDelta as D
-use Rattle.nodes.proofs.delta.NodeDelta.Laws as D′
+use Rattle.deltas.proofs.delta.NodeDelta as D
+use Rattle.deltas.proofs.delta.NodeDelta.Laws as D′
 use Rattle.attrs.proofs.node.FileAttr as T
 use Rattle.attrs.proofs.node.FileAttr.Laws as T′
 use Rattle.attrs.proofs.attr.applied as g

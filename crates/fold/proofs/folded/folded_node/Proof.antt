@@ -7,8 +7,8 @@ use Rattle.fold.proofs.folded.folded_node.Tie as tie
 use Rattle.fold.proofs.folded.folded_node.Reads as reads
 use Rattle.fold.proofs.folded.folded_node.Lts as lts
 use Rattle.fold.proofs.folded.fold_record.Reads as fold-record-reads
-use Rattle.layers.proofs.stack.base_node.Reads as base-node-reads
-use Rattle.layers.proofs.stack.record_at.Reads as record-at-reads
+use Rattle.stack.proofs.stack.base_node.Reads as base-node-reads
+use Rattle.stack.proofs.stack.record_at.Reads as record-at-reads
 
 abbrev Inv-loop : tie.InvT-loop
 Inv-loop img stack count node₀ i₀ node i = Rising img stack node i

@@ -5,7 +5,7 @@ use Rattle.fold.proofs.node.apply_to_node.Reads as reads
 use Rattle.fold.proofs.node.apply_to_node.Lts as lts
 use Rattle.fold.proofs.node.apply_to_kind.Reads as apply-to-kind-reads
 use Rattle.fold.proofs.node.apply_to_meta.Reads as apply-to-meta-reads
-use Rattle.nodes.proofs.delta.attr_delta.Reads as attr-delta-reads
+use Rattle.deltas.proofs.delta.attr_delta.Reads as attr-delta-reads
 use Rattle.fold.proofs.Applying.{node-applied}
 
 attr-delta-requires : tie.Need-attr-delta-requires

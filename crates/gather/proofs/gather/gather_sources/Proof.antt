@@ -10,8 +10,8 @@ use Rattle.gather.proofs.gather.push_base.Reads as push-base-reads
 use Rattle.gather.proofs.gather.is_tombstone.Reads as is-tombstone-reads
 use Rattle.gather.proofs.gather.push_record.Reads as push-record-reads
 use Rattle.merge.proofs.merge.no_sources.Reads as no-sources-reads
-use Rattle.layers.proofs.stack.base_node.Reads as base-node-reads
-use Rattle.layers.proofs.stack.record_at.Reads as record-at-reads
+use Rattle.stack.proofs.stack.base_node.Reads as base-node-reads
+use Rattle.stack.proofs.stack.record_at.Reads as record-at-reads
 
 abbrev Inv-loop : tie.InvT-loop
 Inv-loop img stack lists all₀ i₀ all i = Gathering img stack lists all i

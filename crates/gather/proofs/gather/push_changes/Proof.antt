@@ -4,7 +4,7 @@ use Rattle.gather.proofs.gather.push_changes.Tie as tie
 use Rattle.gather.proofs.gather.push_changes.Reads as reads
 use Rattle.gather.proofs.gather.push_changes.Lts as lts
 use Rattle.merge.proofs.merge.push_list_if.Reads as push-list-if-reads
-use Rattle.nodes.proofs.delta.attr_delta.Reads as attr-delta-reads
+use Rattle.deltas.proofs.delta.attr_delta.Reads as attr-delta-reads
 
 -- src/gather.rt:68:9
 attr-delta-requires : tie.Need-attr-delta-requires

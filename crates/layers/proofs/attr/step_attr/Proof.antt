@@ -1,7 +1,7 @@
 use mathlib.Core.Path.{ap, _∙_}
 use mathlib.Core.Option.{some}
 use Rattle.rules.specs.FileAttrs.{FileAttr, onAttr}
-use Rattle.nodes.specs.Deltas.{deltaMeant}
+use Rattle.deltas.specs.Deltas.{deltaMeant}
 use borrow.Author.Needs.{needs}
 use Rattle.layers.proofs.attr.step_attr.Statement.{statement}
 use Rattle.layers.proofs.attr.step_attr.Tie as tie

@@ -1,7 +1,7 @@
 use mathlib.Core.Path.{refl, sym}
 use Rattle.rules.specs.Initial.{usual}
 use Rattle.rules.specs.Asks.{Ask, ask, reply}
-use Rattle.layers.proofs.Opening.{opened-refused, opened-fine}
+use Rattle.stack.proofs.Opening.{opened-refused, opened-fine}
 use borrow.Author.Needs.{needs}
 use Rattle.layers.proofs.layers.file_type.Statement.{statement}
 use Rattle.layers.proofs.layers.file_type.Tie as tie

@@ -2,7 +2,7 @@ use borrow.Author.Tests.{ne-eqb}
 use mathlib.Core.Path.{refl, sym}
 use Rattle.rules.specs.Initial.{usual}
 use Rattle.rules.specs.Asks.{Ask, ask, reply}
-use Rattle.layers.proofs.Opening.{opened-refused, opened-fine}
+use Rattle.stack.proofs.Opening.{opened-refused, opened-fine}
 use borrow.Author.Needs.{needs}
 use Rattle.layers.proofs.layers.parent_dir_inode.Statement.{statement}
 use Rattle.layers.proofs.layers.parent_dir_inode.Tie as tie

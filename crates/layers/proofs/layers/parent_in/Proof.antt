@@ -3,7 +3,7 @@ use mathlib.Core.Path.{sym}
 use native.Mathlib.Omega.{arith}
 use borrow.Author.Needs.{needs}
 use Rattle.rules.specs.Reads.{parent}
-use Rattle.layers.proofs.Walks.{Walked, walk-start, walk-down, walk-on, walk-end}
+use Rattle.stack.proofs.Walks.{Walked, walk-start, walk-down, walk-on, walk-end}
 use Rattle.layers.proofs.Others.{other-parent, other-base-parent}
 use Rattle.layers.proofs.layers.parent_in.Statement.{statement}
 use Rattle.layers.proofs.layers.parent_in.Tie as tie

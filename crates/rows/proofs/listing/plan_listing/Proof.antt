@@ -9,7 +9,7 @@ use Rattle.layers.proofs.attr.shown_attr.Reads as shown-attr-reads
 use Rattle.rows.proofs.listing.is_listed.Reads as is-listed-reads
 use Rattle.rows.proofs.listing.no_rows.Reads as no-rows-reads
 use Rattle.rows.proofs.listing.plan_rows.Reads as plan-rows-reads
-use Rattle.layers.proofs.stack.open_image.Reads as open-image-reads
+use Rattle.stack.proofs.stack.open_image.Reads as open-image-reads
 
 -- src/listing.rt:280:9
 open-image-requires : tie.Need-open-image-requires

@@ -6,7 +6,7 @@ use Rattle.walk.proofs.walk.take_stack.Statement.{statement}
 use Rattle.walk.proofs.walk.take_stack.Tie as tie
 use Rattle.walk.proofs.walk.take_stack.Reads as reads
 use Rattle.walk.proofs.walk.take_stack.Lts as lts
-use Rattle.image.proofs.batch.pushed.Reads as pushed-reads
+use Rattle.survey.proofs.batch.pushed.Reads as pushed-reads
 use Rattle.walk.proofs.run.has_inode.Reads as has-inode-reads
 use Rattle.walk.proofs.run.past_inode.Reads as past-inode-reads
 use Rattle.walk.proofs.run.place_under.Reads as place-under-reads

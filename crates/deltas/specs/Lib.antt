@@ -1,0 +1,2 @@
+-- What a record by value means.
+pub mod Deltas

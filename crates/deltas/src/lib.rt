@@ -1,0 +1,2 @@
+// Records by value, with the Rust's names, read at a place.
+pub mod delta;

@@ -1,0 +1,4 @@
+-- Lists looked through by name.
+pub mod Search
+pub mod Children
+pub mod Xattrs

@@ -1,0 +1,4 @@
+-- What the one pass answers.
+pub mod Gathering
+pub mod Survey
+pub mod Verdict
