@@ -24,7 +24,7 @@ use Rattle.survey.specs.declared.store.ImageRead.{ImageRead}
 use Rattle.survey.specs.declared.store.Verdict.the-variants as D
 use Rattle.survey.specs.Verdict.{Judges, refusalNumber}
 use Rattle.rules.proofs.Asked.{verdict-fine, number-fine}
-use Rattle.records.specs.Tails.{tail}
+use Rattle.writers.specs.Tails.{tail}
 use Rattle.change.specs.Sections.{between, Spans, tailOf, Stands, Opens, OpensInode}
 use Rattle.change.specs.declared.section.Sections.{Sections}
 use Rattle.change.specs.declared.section.OpenedInode.{OpenedInode}

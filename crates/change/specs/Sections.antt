@@ -11,7 +11,7 @@ use Rattle.image.specs.RecordLayout.{records}
 use Rattle.image.specs.StoreLayout.{batches}
 use Rattle.image.specs.RoundTrip.{readImage}
 use Rattle.survey.specs.Verdict.{refusalNumber, verdictOf}
-use Rattle.records.specs.Tails.{TailParts, tail}
+use Rattle.writers.specs.Tails.{TailParts, tail}
 use Rattle.change.specs.declared.section.Sections.{Sections}
 use Rattle.stack.specs.Stacks.{StackOf}
 use Rattle.change.specs.declared.section.Opened.{Opened}

@@ -1,11 +1,11 @@
 // Batches, one after the other.
 ghost use Rattle.wire.specs.Reading.{Reads};
-ghost use Rattle.records.specs.Batches.{headMeant};
+ghost use Rattle.writers.specs.Batches.{headMeant};
 ghost use Rattle.change.specs.Batches.{passBatch};
 use image::inode::Held;
 use image::inode::find_inode;
-use records::batch::BatchHeadRead;
-use records::batch::read_batch_head;
+use writers::batch::BatchHeadRead;
+use writers::batch::read_batch_head;
 use wire::cursor::Cursor;
 
 // The head of the batch at `at`; the cursor is that after its records.

@@ -28,8 +28,8 @@ use Rattle.nodes.specs.declared.option.OptionPart.the-variants as M
 use Rattle.nodes.specs.declared.option.OptionU64.the-variants as I
 use Rattle.nodes.specs.declared.attr.AttrDelta.{AttrDelta}
 use Rattle.deltas.specs.declared.delta.NodeDelta.the-variants.{Directory}
-use Rattle.records.specs.Writes.{attrBytes, fields-bytes}
-use Rattle.records.proofs.Writing.{list-written}
+use Rattle.writers.specs.Writes.{attrBytes, fields-bytes}
+use Rattle.writers.proofs.Writing.{list-written}
 use Rattle.records.proofs.Records.{list-bytes}
 use Rattle.rules.specs.Initial.{usual}
 use Rattle.rules.specs.Asks.{badName}

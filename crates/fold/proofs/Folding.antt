@@ -45,9 +45,9 @@ use Rattle.nodes.proofs.node.NodeKind as kinds
 use Rattle.deltas.proofs.Others.{one-kind, notDirectory}
 use Rattle.attrs.specs.Meant.{kindMeant}
 use Rattle.attrs.specs.declared.node.FileType.{FileType}
-use Rattle.records.specs.Writes.{metaBytes, metaWith, meta-with-bytes}
+use Rattle.writers.specs.Writes.{metaBytes, metaWith, meta-with-bytes}
 use Rattle.records.specs.Records.{bodyBytes}
-use Rattle.records.proofs.Writing.{part-written}
+use Rattle.writers.proofs.Writing.{part-written}
 use Rattle.stack.specs.Stacks.{Stacked, recordsUnder, recordsIn, nodeIn, RecordIs, BaseIs}
 use Rattle.stack.specs.declared.stack.OptionNode.{OptionNode}
 use Rattle.stack.specs.declared.stack.OptionNode.the-variants as O

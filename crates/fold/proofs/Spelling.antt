@@ -11,7 +11,7 @@ use lib.ListN.{length}
 use Rattle.wire.specs.Number.{edge}
 use Rattle.wire.specs.Put.{Put}
 use Rattle.wire.proofs.Puts.{put-append, put-length}
-use Rattle.records.proofs.Writing.{put-nothing}
+use Rattle.writers.proofs.Writing.{put-nothing}
 use Rattle.merge.specs.Merges.{Ready, givenBy, givenOfMerge, mergeGives, Settles}
 use Rattle.merge.specs.declared.merge.Sources.{Sources}
 use Rattle.merge.specs.declared.merge.Merge.{Merge}

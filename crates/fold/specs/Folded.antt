@@ -24,7 +24,7 @@ use Rattle.nodes.specs.declared.node.InodeMeta.{InodeMeta}
 use Rattle.nodes.specs.declared.node.NodeKind.{NodeKind}
 use Rattle.nodes.specs.declared.node.NodeKind.the-variants as K
 use Rattle.nodes.specs.declared.node.Node.{Node}
-use Rattle.records.specs.Writes.{metaWith}
+use Rattle.writers.specs.Writes.{metaWith}
 
 -- ---- a node with these attributes and entries
 

@@ -19,7 +19,7 @@ use deltas::delta::EntryDelta;
 use deltas::delta::NodeDelta;
 use nodes::node::Node;
 use nodes::node::NodeKind;
-use records::write_attr::put_inode_meta;
+use writers::write_attr::put_inode_meta;
 use records::write_node::kind_number;
 use records::write_node::put_body;
 use wire::cursor::Cursor;

@@ -16,8 +16,8 @@ use merge::merge::Merge;
 use merge::merge::Sources;
 use merge::merge::settle;
 use nodes::part::Part;
-use records::write::put_entry;
-use records::write::put_text_part;
+use writers::write::put_entry;
+use writers::write::put_text_part;
 use wire::number::put_number;
 
 // The entries of a directory, or the attributes.

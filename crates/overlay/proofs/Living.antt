@@ -30,7 +30,7 @@ use Rattle.deltas.specs.declared.delta.EntryDelta.{EntryDelta}
 use Rattle.deltas.specs.declared.delta.EntryDelta.the-variants as E
 use Rattle.deltas.specs.declared.delta.NodeDelta.{NodeDelta}
 use Rattle.deltas.specs.Deltas.{ReadsEntry}
-use Rattle.records.specs.Tails.{tail}
+use Rattle.writers.specs.Tails.{tail}
 use Rattle.rules.specs.Initial.{usual}
 use Rattle.rules.specs.Calls.{Call}
 use Rattle.rules.specs.Queue.{onLive}

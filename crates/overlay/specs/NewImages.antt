@@ -7,7 +7,7 @@ use Rattle.wire.specs.Text.{textBytes}
 use Rattle.image.specs.Masks.{maybe}
 use Rattle.image.specs.FieldLayout.{inode}
 use Rattle.nodes.specs.Options.{numberOf, textAt}
-use Rattle.records.specs.Writes.{attrBytes}
+use Rattle.writers.specs.Writes.{attrBytes}
 use Rattle.records.specs.Records.{listBytes}
 use Rattle.change.specs.Sections.{between}
 use Rattle.change.specs.Cuts.{countWith}

@@ -23,10 +23,10 @@ use Rattle.image.specs.RecordLayout.{layerRecord, records}
 use Rattle.image.specs.StoreLayout.{batches}
 use Rattle.survey.specs.Gathering.{batchHead}
 use Rattle.image.specs.RoundTrip.{writeImage}
-use Rattle.records.specs.Batches.{headMeant}
-use Rattle.records.specs.Tails.{TailParts, tail, tailMeant}
-use Rattle.records.specs.declared.batch.BatchHead.{BatchHead}
-use Rattle.records.specs.declared.tail.Tail.{Tail}
+use Rattle.writers.specs.Batches.{headMeant}
+use Rattle.writers.specs.Tails.{TailParts, tail, tailMeant}
+use Rattle.writers.specs.declared.batch.BatchHead.{BatchHead}
+use Rattle.writers.specs.declared.tail.Tail.{Tail}
 use Rattle.rules.specs.Initial.{usual}
 use Rattle.rules.specs.Calls.{Limits, Call}
 use Rattle.rules.specs.Queue.{reasonOf, frozenBatch, frozen}

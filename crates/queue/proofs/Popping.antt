@@ -15,7 +15,7 @@ use Rattle.image.specs.Fits.{FitsBatch}
 use Rattle.image.specs.NodeLayout.{base}
 use Rattle.image.specs.RecordLayout.{records}
 use Rattle.image.specs.RoundTrip.{writeImage}
-use Rattle.records.specs.Tails.{tail}
+use Rattle.writers.specs.Tails.{tail}
 use Rattle.rules.specs.Initial.{usual}
 use Rattle.rules.specs.Calls.{Call}
 use Rattle.rules.specs.Queue.{setBatches, popped}

@@ -15,8 +15,8 @@ use Rattle.image.specs.NodeLayout.{base}
 use Rattle.image.specs.RecordLayout.{records}
 use Rattle.image.specs.StoreLayout.{batches}
 use Rattle.image.specs.RoundTrip.{writeImage, read-fits}
-use Rattle.records.specs.Tails.{TailParts, tail, tailMeant}
-use Rattle.records.specs.declared.tail.Tail.{Tail}
+use Rattle.writers.specs.Tails.{TailParts, tail, tailMeant}
+use Rattle.writers.specs.declared.tail.Tail.{Tail}
 use Rattle.rules.specs.Initial.{usual}
 use Rattle.rules.specs.Calls.{Call}
 use Rattle.rules.specs.Refusals.{pastCount}

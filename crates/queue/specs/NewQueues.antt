@@ -4,9 +4,9 @@ use Prim.Native.Nat.{ℕ}
 use lib.ListN.{length}
 use Rattle.wire.specs.Number.{numberBytes}
 use Rattle.survey.specs.Gathering.{batchHead}
-use Rattle.records.specs.Batches.{headMeant}
-use Rattle.records.specs.Tails.{tail as tailCodec, tailMeant}
-use Rattle.records.specs.declared.tail.Tail.{Tail}
+use Rattle.writers.specs.Batches.{headMeant}
+use Rattle.writers.specs.Tails.{tail as tailCodec, tailMeant}
+use Rattle.writers.specs.declared.tail.Tail.{Tail}
 use Rattle.change.specs.Sections.{between}
 use Rattle.change.specs.declared.section.Sections.{Sections}
 use Rattle.queue.specs.declared.write.NewQueue.{NewQueue}

@@ -7,7 +7,7 @@ use lib.Dec.{leb}
 use lib.ListN.{drop}
 use Rattle.wire.specs.declared.time.Time.{Time}
 use Rattle.wire.specs.Parse.{Parsed, fault, got}
-use Rattle.records.specs.Tails.{TailParts}
+use Rattle.writers.specs.Tails.{TailParts}
 use Rattle.rules.specs.Queue.{reasonOf}
 use Rattle.wire.specs.declared.cursor.Cursor.{Cursor}
 use Rattle.wire.specs.declared.cursor.Cursor.the-variants as C

@@ -7,10 +7,10 @@ use change::answer::ChangeAnswer;
 use change::answer::lacks_room;
 use change::copy::put_between;
 use change::section::Sections;
-use records::batch::BatchHead;
-use records::batch::put_batch_head;
-use records::tail::Tail;
-use records::tail::put_tail;
+use writers::batch::BatchHead;
+use writers::batch::put_batch_head;
+use writers::tail::Tail;
+use writers::tail::put_tail;
 use wire::number::put_number;
 
 // What is new in an image; all else is copied from the old one.

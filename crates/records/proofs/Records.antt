@@ -14,7 +14,7 @@ use Rattle.image.specs.RecordLayout.{changes, changePart, changePartOf, layerRe
 use Rattle.nodes.specs.Listed.{listAt, listOf, ListedIf, Listed}
 use Rattle.deltas.specs.Deltas.{attrOf, changeMeant, entryMeant, ChangeListed, AttrListed, EntryListed}
 use Rattle.nodes.specs.Nodes.{bodyMeant, nodeMeant, EntriesListed}
-use Rattle.records.specs.Writes.{attrBytes, metaBytes, fields-bytes, meta-bytes}
+use Rattle.writers.specs.Writes.{attrBytes, metaBytes, fields-bytes, meta-bytes}
 use Rattle.records.specs.Records.{listBytes, changeBytes, entryBytes, bodyBytes, nodeBytes}
 use Rattle.nodes.specs.declared.option.OptionPart.{OptionPart}
 use Rattle.nodes.specs.declared.option.OptionPart.the-variants as P
@@ -25,7 +25,7 @@ use Rattle.deltas.specs.declared.delta.EntryDelta.the-variants as E
 use Rattle.nodes.specs.declared.node.NodeKind.{NodeKind}
 use Rattle.nodes.specs.declared.node.NodeKind.the-variants as K
 use Rattle.nodes.specs.declared.node.Node.{Node}
-use Rattle.records.proofs.Writing.{list-written}
+use Rattle.writers.proofs.Writing.{list-written}
 
 module _ (img : List ℕ) (end : ℕ) where
   pub list-bytes : (o : OptionPart) → ListedIf img U.Change o end → listBytes img o ≡ opt-write changes (listOf img U.Change o)

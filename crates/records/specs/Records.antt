@@ -9,7 +9,7 @@ use Rattle.image.specs.FieldLayout.{inode, size, target}
 use Rattle.nodes.specs.Options.{numberOf, textAt, textOf}
 use Rattle.deltas.specs.Deltas.{attrOf, changeMeant}
 use Rattle.nodes.specs.Nodes.{bodyMeant}
-use Rattle.records.specs.Writes.{attrBytes, metaBytes}
+use Rattle.writers.specs.Writes.{attrBytes, metaBytes}
 use Rattle.nodes.specs.declared.option.OptionPart.{OptionPart}
 use Rattle.nodes.specs.declared.option.OptionPart.the-variants as P
 use Rattle.deltas.specs.declared.delta.DirectoryDelta.{DirectoryDelta}

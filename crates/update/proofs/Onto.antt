@@ -26,11 +26,11 @@ use Rattle.nodes.specs.declared.option.OptionTime.{OptionTime}
 use Rattle.nodes.specs.declared.option.OptionTime.the-variants as T
 use Rattle.nodes.specs.declared.option.OptionPart.{OptionPart}
 use Rattle.nodes.specs.declared.option.OptionPart.the-variants as P
-use Rattle.records.specs.Writes.{partBit, attrBytes, fieldsWith, fields-with-bytes}
+use Rattle.writers.specs.Writes.{partBit, attrBytes, fieldsWith, fields-with-bytes}
 use Rattle.rules.specs.Reads.{orElse}
 use Rattle.rules.specs.Changes.{mergeFields, mergeChanges}
 use Rattle.change.specs.Sections.{between, Spans}
-use Rattle.update.specs.Merged.{changesAnew}
+use Rattle.meld.specs.Merged.{changesAnew}
 use Rattle.update.specs.Fields.{orWord, orTime, orPart, attrOver}
 use Rattle.update.specs.Updates.{mergedDelta, Onto}
 use Rattle.overlay.specs.declared.write.Lived.{Lived}
@@ -38,7 +38,7 @@ use Rattle.update.specs.declared.write.NewImage.the-variants as N
 use Rattle.update.specs.declared.fields.NewChange.the-variants as C
 use Rattle.update.specs.declared.fields.Updated.{Updated}
 use Rattle.change.proofs.Sections.{span-part, span-front, span-back, span-reads}
-use Rattle.update.proofs.Melding.{changes-written}
+use Rattle.meld.proofs.Melding.{changes-written}
 
 -- ---- "field by field"
 

@@ -32,8 +32,8 @@ use Rattle.nodes.specs.declared.option.OptionPart.{OptionPart}
 use Rattle.nodes.specs.declared.option.OptionPart.the-variants as P
 use Rattle.attrs.specs.Meant.{kindMeant}
 use Rattle.attrs.specs.declared.node.FileType.{FileType}
-use Rattle.records.specs.Writes.{attrBytes, fields-bytes}
-use Rattle.records.proofs.Writing.{list-written}
+use Rattle.writers.specs.Writes.{attrBytes, fields-bytes}
+use Rattle.writers.proofs.Writing.{list-written}
 use Rattle.stack.specs.Stacks.{StackOf, shown}
 use Rattle.stack.specs.Stacks.{typeOf}
 use Rattle.stack.specs.declared.file_type.OptionType.{OptionType}
@@ -50,7 +50,7 @@ use Rattle.rules.proofs.PlacedStack.{placed-stack, placed-node}
 use Rattle.change.specs.Changed.{Changes, ifFits}
 use Rattle.change.specs.Sections.{Spans, Stands}
 use Rattle.change.specs.Cuts.{rowHere, underFirst, StandsAt, CutsRecords}
-use Rattle.update.specs.Merged.{changesAnew}
+use Rattle.meld.specs.Merged.{changesAnew}
 use Rattle.overlay.specs.NewImages.{livedOf, relived}
 use Rattle.update.specs.Anew.{bareBytes, deltaAnew, newBytes}
 use Rattle.update.specs.Updates.{leftOver, newDelta, mergedDelta, Onto, Updates}

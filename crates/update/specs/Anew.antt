@@ -4,11 +4,11 @@ use mathlib.Core.Bool.{cond}
 use Prim.Native.Nat.{ℕ}
 use lib.Dec.{eqb}
 use Rattle.wire.specs.Number.{numberBytes}
-use Rattle.records.specs.Writes.{attrBytes}
+use Rattle.writers.specs.Writes.{attrBytes}
 use Rattle.change.specs.Sections.{between}
 use Rattle.overlay.specs.NewImages.{relived}
 use Rattle.change.specs.declared.section.Sections.{Sections}
-use Rattle.update.specs.Merged.{changesAnew}
+use Rattle.meld.specs.Merged.{changesAnew}
 use Rattle.update.specs.declared.fields.NewChange.{NewChange}
 use Rattle.update.specs.declared.fields.NewChange.the-variants as C
 use Rattle.update.specs.declared.fields.Updated.{Updated}

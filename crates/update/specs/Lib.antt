@@ -1,5 +1,4 @@
 -- What the calls answer, and what they write.
-pub mod Merged
 pub mod Fields
 pub mod Anew
 pub mod Updates

@@ -3,7 +3,7 @@ ghost use mathlib.Core.Path.{_≡_};
 ghost use Rattle.wire.specs.Put.{Put};
 ghost use Rattle.update.specs.Fields.{orWord, orTime, orPart, wordsOver, timesOver, attrOver};
 ghost use Rattle.update.specs.Anew.{bareBytes, changeAnew, deltaAnew};
-use crate::merged::put_changes;
+use meld::merged::put_changes;
 use change::copy::put_between;
 use nodes::attr::AttrDelta;
 use nodes::attr::Times;
@@ -12,7 +12,7 @@ use nodes::option::OptionPart;
 use nodes::option::OptionTime;
 use nodes::option::OptionU32;
 use overlay::write::Lived;
-use records::write_attr::put_attr_delta;
+use writers::write_attr::put_attr_delta;
 use wire::number::put_number;
 
 // What a delta changes by its kind, afterwards.

@@ -9,7 +9,7 @@ use crate::walk::walk_base;
 use change::section::Sections;
 use image::inode::Held;
 use image::inode::find_inode;
-use records::batch::read_batch_head;
+use writers::batch::read_batch_head;
 use wire::cursor::Cursor;
 use wire::cursor::place_at;
 use wire::number::read_number;

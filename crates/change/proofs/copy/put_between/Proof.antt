@@ -1,7 +1,7 @@
 use mathlib.Core.Path.{_≡_}
 use Prim.Native.Nat.{_-_}
 use native.Mathlib.Omega.{arith}
-use Rattle.records.proofs.Writing.{put-nothing}
+use Rattle.writers.proofs.Writing.{put-nothing}
 use borrow.Author.Needs.{needs}
 use Rattle.change.proofs.copy.put_between.Statement.{statement}
 use Rattle.change.proofs.copy.put_between.Tie as tie

@@ -7,7 +7,7 @@ use Rattle.fold.proofs.folded.put_merged.Lts as lts
 use Rattle.attrs.proofs.node.kind_type.Reads as kind-type-reads
 use Rattle.fold.proofs.folded.put_folded_body.Reads as put-folded-body-reads
 use Rattle.fold.proofs.list.put_attributes.Reads as put-attributes-reads
-use Rattle.records.proofs.write_attr.put_inode_meta.Reads as put-inode-meta-reads
+use Rattle.writers.proofs.write_attr.put_inode_meta.Reads as put-inode-meta-reads
 use Rattle.records.proofs.write_node.kind_number.Reads as kind-number-reads
 use Rattle.wire.proofs.number.put_number.Reads as put-number-reads
 

@@ -4,7 +4,7 @@ use Rattle.fold.proofs.list.put_attribute.Statement.{statement}
 use Rattle.fold.proofs.list.put_attribute.Tie as tie
 use Rattle.fold.proofs.list.put_attribute.Reads as reads
 use Rattle.fold.proofs.list.put_attribute.Lts as lts
-use Rattle.records.proofs.write.put_text_part.Reads as put-text-part-reads
+use Rattle.writers.proofs.write.put_text_part.Reads as put-text-part-reads
 
 -- src/list.rt:33:9
 put-text-part-requires : tie.Need-put-text-part-requires

@@ -4,7 +4,7 @@ use Rattle.fold.proofs.list.put_row.Tie as tie
 use Rattle.fold.proofs.list.put_row.Reads as reads
 use Rattle.fold.proofs.list.put_row.Lts as lts
 use Rattle.fold.proofs.list.put_attribute.Reads as put-attribute-reads
-use Rattle.records.proofs.write.put_entry.Reads as put-entry-reads
+use Rattle.writers.proofs.write.put_entry.Reads as put-entry-reads
 
 -- src/list.rt:47:40
 enum-told : tie.Need-enum-told

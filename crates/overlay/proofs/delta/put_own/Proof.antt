@@ -2,7 +2,7 @@ use borrow.Author.Needs.{needs}
 use Rattle.overlay.proofs.delta.put_own.Statement.{statement}
 use Rattle.overlay.proofs.delta.put_own.Tie as tie
 use native.Mathlib.Omega.{arith}
-use Rattle.records.proofs.Writing.{put-nothing}
+use Rattle.writers.proofs.Writing.{put-nothing}
 use Rattle.wire.proofs.Puts.{put-append}
 
 enum-told : tie.Need-enum-told

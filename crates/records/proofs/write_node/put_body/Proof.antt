@@ -1,6 +1,6 @@
 use native.Mathlib.Omega.{arith}
 use Rattle.wire.proofs.Puts.{put-append}
-use Rattle.records.proofs.Writing.{put-nothing}
+use Rattle.writers.proofs.Writing.{put-nothing}
 use borrow.Author.Needs.{needs}
 use Rattle.records.proofs.write_node.put_body.Statement.{statement}
 use Rattle.records.proofs.write_node.put_body.Tie as tie

@@ -1,5 +1,5 @@
 use native.Mathlib.Omega.{arith}
-use Rattle.records.proofs.Writing.{put-nothing}
+use Rattle.writers.proofs.Writing.{put-nothing}
 use borrow.Author.Needs.{needs}
 use Rattle.records.proofs.write_node.put_list_if.Statement.{statement}
 use Rattle.records.proofs.write_node.put_list_if.Tie as tie

@@ -4,7 +4,7 @@ use Rattle.walk.proofs.open.records_of.Statement.{statement}
 use Rattle.walk.proofs.open.records_of.Tie as tie
 use Rattle.walk.proofs.open.records_of.Reads as reads
 use Rattle.walk.proofs.open.records_of.Lts as lts
-use Rattle.records.proofs.batch.read_batch_head.Reads as read-batch-head-reads
+use Rattle.writers.proofs.batch.read_batch_head.Reads as read-batch-head-reads
 use Rattle.wire.proofs.cursor.place_at.Reads as place-at-reads
 
 -- src/open.rt:29:13

@@ -1,0 +1,2 @@
+-- Two lists of attribute changes as one.
+pub mod Merged

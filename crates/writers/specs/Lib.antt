@@ -1,0 +1,4 @@
+-- What the writers write.
+pub mod Writes
+pub mod Batches
+pub mod Tails
