@@ -68,7 +68,7 @@ kind-with img (K.CharDevice rdev) es = refl
 kind-with img (K.BlockDevice rdev) es = refl
 kind-with img K.Socket es = refl
 
-shows-kind : {img : List ℕ} {n : Node} {m : M.Node} → Shows img n m → kindOf (bodyMeant img (n .kind)) ≡ kindOf (m .body)
+pub shows-kind : {img : List ℕ} {n : Node} {m : M.Node} → Shows img n m → kindOf (bodyMeant img (n .kind)) ≡ kindOf (m .body)
 shows-kind {img} {n} h = kind-with img (n .kind) (h .entries) ∙ ap (λ (x : M.Node). kindOf (x .body)) (h .is)
 
 -- ---- a record folded in

@@ -11,7 +11,7 @@ use Rattle.wire.specs.declared.order.Ordering.{Ordering}
 use Rattle.wire.specs.declared.order.Ordering.the-variants.{Less, Equal, Greater}
 use Rattle.wire.specs.Order.{Order}
 use Rattle.wire.specs.Orders.{byBytes}
-use Rattle.wire.specs.Rows.{choose, place, insert, remove, set}
+use Rattle.wire.specs.Rows.{choose, lookup, place, insert, remove, set}
 use Rattle.wire.specs.Number.{edge}
 use Rattle.wire.specs.Lists.{Every, chain-write, row, onto, lastCount}
 use Rattle.image.specs.Meaning.{Text, Entries, Attributes}
@@ -60,15 +60,16 @@ module _ {K : Type 0} (O : Order K) {A : Type 0} where
   set-few k none l = omega (arith, remove-few k l)
   set-few k (some a) l = insert-few k a l
 
-  laid-few : (s : List (K × Option A)) (m : List (K × A)) → length (laid O (itself O) s m) ≤ length s + length m
-  unfolding laid
-  laid-few [] m = omega arith
-  laid-few (c ∷ s) m = omega (arith, set-few (c .0) (c .1) (laid O (itself O) s m), laid-few s m)
+  module _ {C : Type 0} (g : K → C → Option A → Option A) where
+    laid-few : (s : List (K × C)) (m : List (K × A)) → length (laid O g s m) ≤ length s + length m
+    unfolding laid
+    laid-few [] m = omega arith
+    laid-few (c ∷ s) m = omega (arith, set-few (c .0) (g (c .0) (c .1) (lookup O (c .0) (laid O g s m))) (laid O g s m), laid-few s m)
 
-  decisions-few : (ss : List (List (K × Option A))) → length (decisions O ss) ≤ total ss
-  unfolding pile total
-  decisions-few [] = omega arith
-  decisions-few (s ∷ ss) = omega (arith, laid-few s (pile O (itself O) ss), decisions-few ss)
+    pub pile-few : (ss : List (List (K × C))) → length (pile O g ss) ≤ total ss
+    unfolding pile total
+    pile-few [] = omega arith
+    pile-few (s ∷ ss) = omega (arith, laid-few s (pile O g ss), pile-few ss)
 
 total-short : (ss : List (List Decided)) → Every Short ss → total ss ≤ length ss * lastCount
 unfolding total
@@ -81,7 +82,7 @@ module _ {img : List ℕ} {s : InodeLayerStack} {l : Lists} {r : Sources} (g : G
     ready = gathered-ready g;
     few =
         let n : length (sourcesOf img r) ≤ 35 = rw (length-map (take (r .count) (r .rows)) (sourceRows img), length-take-le (r .count) (r .rows) (omega (arith, g .whole .wide, g .whole .few))) (g .whole .few) in
-        omega (arith, decisions-few byBytes (sourcesOf img r), total-short (sourcesOf img r) (g .short), n);
+        omega (arith, pile-few byBytes (itself byBytes) (sourcesOf img r), total-short (sourcesOf img r) (g .short), n);
   }
 
   gathered-gives : givenBy img r ≡ merges (pileOf l (recordsIn img s) (nodeIn img s)) .rows

@@ -1,0 +1,63 @@
+-- The nodes that fold makes of stacks, by rising inode. Document 01: "Snapshot folds every layer, then drops non-directories with 0 links".
+use mathlib.Core.Path.{_≡_}
+use mathlib.Core.Option.{Option, none, some}
+use mathlib.Core.Bool.{Bool, true, false}
+use mathlib.Core.List.{List, [], _∷_, _++_}
+use Prim.Native.Nat.{ℕ, _≤_}
+use lib.ListN.{length}
+use Rattle.wire.specs.Maps.{sift}
+use Rattle.wire.specs.Number.{edge, numberBytes}
+use Rattle.image.specs.Meaning as M
+use Rattle.image.specs.FieldLayout.{inode}
+use Rattle.image.specs.NodeLayout.{node}
+use Rattle.rules.specs.Initial.{usual}
+use Rattle.rules.specs.Queue.{kept}
+use Rattle.rules.proofs.Folded.{folded}
+use Rattle.nodes.specs.declared.node.Node.{Node}
+use Rattle.stack.specs.declared.stack.OptionNode.{OptionNode}
+use Rattle.merge.specs.Pile.{row}
+use Rattle.fold.specs.FoldedNodes.{Shows, ShowsIf}
+use Rattle.walk.specs.Walks.{Pieces, Ready, stacksLeft}
+use Rattle.walk.specs.declared.walk.Walk.{Walk}
+
+-- ---- which nodes there are
+
+-- all, or those that a snapshot keeps
+abbrev pub keptIf : Bool → Option M.Node → Option M.Node
+keptIf true o = sift kept o
+keptIf false o = o
+
+pub record Keeps (n : Node) (b : Bool) : Type 0 where
+  pub says : (img : List ℕ) (m : M.Node) → Shows img n m → b ≡ kept m
+
+pub record Sifts (o : OptionNode) (drops : Bool) (r : OptionNode) : Type 0 where
+  pub makes : (img : List ℕ) (m : Option M.Node) → ShowsIf img o m → ShowsIf img r (keptIf drops m)
+
+abbrev pub countIf : Option M.Node → ℕ
+countIf none = 0
+countIf (some m) = 1
+
+-- the nodes of stacks, each folded
+unfoldable pub nodesOf : Bool → List (ℕ × Pieces) → List (ℕ × M.Node)
+nodesOf drops [] = []
+nodesOf drops (e ∷ l) = row (e .0) (keptIf drops (folded usual (e .1 .0) (e .1 .1))) (nodesOf drops l)
+
+-- ---- as they are written
+
+-- "inode; kind ..."
+abbrev pub rowBytes : ℕ → Option M.Node → List ℕ
+rowBytes i none = []
+rowBytes i (some m) = inode .write i ++ node .write m
+
+unfoldable pub nodesBytes : List (ℕ × M.Node) → List ℕ
+nodesBytes [] = []
+nodesBytes (e ∷ l) = (inode .write (e .0) ++ node .write (e .1)) ++ nodesBytes l
+
+-- "Every list has its count first"
+abbrev pub baseBytes : Bool → List (ℕ × Pieces) → List ℕ
+baseBytes drops l = numberBytes (length (nodesOf drops l)) ++ nodesBytes (nodesOf drops l)
+
+-- a number holds the count of what the walk has left
+pub record Few (img : List ℕ) (w : Walk) : Type 0 where
+  pub ready : Ready img w
+  pub few : length (stacksLeft img w) ≤ edge
