@@ -9,12 +9,16 @@ use change::answer::ChangeAnswer;
 use directory::directory::add_dir_entry;
 use directory::directory::remove_dir_entry;
 use directory::directory::update_dir_parent;
+use flush::flush::fold_entries;
+use flush::flush::snapshot_all;
+use normalize::normalize::normalize_directory_deltas;
 use overlay::live::insert_new_node;
 use overlay::live::tombstone;
 use queue::queue::freeze_live;
 use queue::queue::pop_flushed_batch;
 use queue::queue::record_mutation;
 use queue::queue::request;
+use update::update::update_attr_delta;
 use wire::part::part;
 use wire::time::Time;
 
@@ -24,10 +28,14 @@ enum Call {
     Add,
     Remove,
     SetParent,
+    Update,
+    Normalise,
     Freeze,
+    Fold,
     Pop,
     Note,
     Request,
+    Snapshot,
 }
 
 // The answer of a line that asks for a change; of another line nothing.
@@ -48,8 +56,17 @@ pub fn answer(line: &[u8]) {
     if same(call, b"setparent") {
         replay(line, Call::SetParent, 3);
     }
+    if same(call, b"update") {
+        replay(line, Call::Update, 3);
+    }
+    if same(call, b"normalise") {
+        replay(line, Call::Normalise, 2);
+    }
     if same(call, b"freeze") {
         replay(line, Call::Freeze, 6);
+    }
+    if same(call, b"fold") {
+        replay(line, Call::Fold, 1);
     }
     if same(call, b"pop") {
         replay(line, Call::Pop, 2);
@@ -60,36 +77,53 @@ pub fn answer(line: &[u8]) {
     if same(call, b"request") {
         replay(line, Call::Request, 2);
     }
-}
-
-// At most as long a target as there is to lend.
-fn room_of(word: &[u8]) -> usize
-    ensures { λ r. ⌜ r ≤ 512 ⌝ }
-{
-    let length = decimal(word);
-    if length < 512 {
-        return length as usize;
+    if same(call, b"snapshot") {
+        replay(line, Call::Snapshot, 1);
     }
-    512
 }
 
-// Lends the image, the second word as bytes, and a target. The room and the image are the last two words.
+// The room and the image are the last two words.
 fn replay(line: &[u8], call: Call, last: usize)
     requires { ⌜ last ≤ 6 ⌝ }
 {
     let mut image = [0u8; 512];
     let mut given = [0u8; 512];
     let mut target = [0u8; 512];
-    let length = bytes(word(line, last + 1), &mut image);
-    let count = bytes(word(line, 2), &mut given);
-    let room = room_of(word(line, last));
+    lend(line, call, last, &mut image, &mut given, &mut target);
+}
+
+// Lends the image, the second word as bytes, and a target.
+fn lend(
+    line: &[u8],
+    call: Call,
+    last: usize,
+    image: &mut [u8],
+    given: &mut [u8],
+    target: &mut [u8],
+)
+    requires { ⌜ last ≤ 6 ⌝ }
+{
+    let length = bytes(word(line, last + 1), image);
+    let count = bytes(word(line, 2), given);
+    let room = room_of(word(line, last), target.len());
     show_change(
         line,
         call,
-        part(&image, 0, length),
-        part(&given, 0, count),
+        part(image, 0, length),
+        part(given, 0, count),
         &mut target[..room],
     );
+}
+
+// At most as long a target as there is to lend.
+fn room_of(word: &[u8], most: usize) -> usize
+    ensures { λ r. ⌜ r ≤ most ⌝ }
+{
+    let length = decimal(word);
+    if length < (most as u64) {
+        return length as usize;
+    }
+    most
 }
 
 fn show_change(line: &[u8], call: Call, img: &[u8], given: &[u8], target: &mut [u8]) {
@@ -113,10 +147,14 @@ fn change(line: &[u8], call: Call, img: &[u8], given: &[u8], target: &mut [u8]) 
         Call::Add => add_dir_entry(img, first, given, third, moment(line, 4), target),
         Call::Remove => remove_dir_entry(img, first, given, moment(line, 3), target),
         Call::SetParent => update_dir_parent(img, first, second, target),
+        Call::Update => update_attr_delta(img, first, given, target),
+        Call::Normalise => normalize_directory_deltas(img, first, target),
         Call::Freeze => freeze_live(img, first, second, third, moment(line, 4), target),
+        Call::Fold => fold_entries(img, target),
         Call::Pop => pop_flushed_batch(img, first, target),
         Call::Note => record_mutation(img, first, target),
         Call::Request => request(img, first, target),
+        Call::Snapshot => snapshot_all(img, target),
     }
 }
 

@@ -23,9 +23,11 @@
 //
 //     insert INODE DELTA ROOM BYTES                    tombstone INODE ROOM BYTES
 //     add INODE NAME CHILD SECONDS NANOS ROOM BYTES    remove INODE NAME SECONDS NANOS ROOM BYTES
-//     setparent INODE PARENT ROOM BYTES                freeze DEPTH BYTES OPERATIONS SECONDS NANOS ROOM BYTES
-//     pop ID ROOM BYTES                                note BYTES ROOM BYTES
-//     request REASON ROOM BYTES
+//     setparent INODE PARENT ROOM BYTES                update INODE FIELDS ROOM BYTES
+//     normalise POSITION ROOM BYTES                    freeze DEPTH BYTES OPERATIONS SECONDS NANOS ROOM BYTES
+//     fold ROOM BYTES                                  pop ID ROOM BYTES
+//     note BYTES ROOM BYTES                            request REASON ROOM BYTES
+//     snapshot ROOM BYTES
 mod answer;
 mod changes;
 mod lend;

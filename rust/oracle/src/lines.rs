@@ -17,8 +17,7 @@
 //! PERM is octal, a time is SECONDS.NANOS, both without padding; all else is decimal. Each call may be
 //! `refused N` as well.
 //!
-//! The changes that the port has so far; ROOM is the length of the lent target, SECONDS has its sign before it. Each
-//! answers `image HEX`.
+//! The changes. ROOM is the length of the lent target, SECONDS has its sign before it. Each answers `image HEX`.
 //!
 //! ```text
 //! insert INODE DELTA ROOM IMAGE
@@ -26,10 +25,14 @@
 //! add INODE NAME CHILD SECONDS NANOS ROOM IMAGE
 //! remove INODE NAME SECONDS NANOS ROOM IMAGE
 //! setparent INODE PARENT ROOM IMAGE
+//! update INODE FIELDS ROOM IMAGE
+//! normalise POSITION ROOM IMAGE
 //! freeze DEPTH BYTES OPERATIONS SECONDS NANOS ROOM IMAGE
+//! fold ROOM IMAGE
 //! pop ID ROOM IMAGE
 //! note BYTES ROOM IMAGE
 //! request REASON ROOM IMAGE
+//! snapshot ROOM IMAGE
 //! ```
 
 use crate::calls::{Answer, Call, run};
@@ -64,7 +67,7 @@ pub fn line(call: &Call, image: &[u8]) -> Option<String> {
     Some(format!("{words} {}", hex(image)))
 }
 
-/// The line of a change, with the room of its target; `None` for a call that no line has.
+/// The line of a change, with the room of its target; `None` for a read.
 pub fn change_line(call: &Call, room: usize, image: &[u8]) -> Option<String> {
     let time = |t: &Time| format!("{:+} {}", t.seconds, t.nanos);
     let words = match call {
@@ -73,10 +76,14 @@ pub fn change_line(call: &Call, room: usize, image: &[u8]) -> Option<String> {
         Call::Add { parent, name, child, now } => format!("add {parent} {} {child} {}", hex(name), time(now)),
         Call::Remove { parent, name, now } => format!("remove {parent} {} {}", hex(name), time(now)),
         Call::SetParent { inode, parent } => format!("setparent {inode} {parent}"),
+        Call::Update { inode, fields } => format!("update {inode} {}", hex(fields)),
+        Call::Normalise { position } => format!("normalise {position}"),
         Call::Freeze { depth, bytes, operations, now } => format!("freeze {depth} {bytes} {operations} {}", time(now)),
+        Call::Fold => "fold".to_string(),
         Call::Pop { id } => format!("pop {id}"),
         Call::Note { bytes } => format!("note {bytes}"),
         Call::Request { reason } => format!("request {reason}"),
+        Call::Snapshot => "snapshot".to_string(),
         _ => return None,
     };
     Some(format!("{words} {room} {}", hex(image)))

@@ -254,6 +254,16 @@ impl Random {
         }
     }
 
+    /// An update with any arguments, normalising, a fold or a snapshot.
+    pub fn layer_call(&mut self) -> Call {
+        match self.below(4) {
+            0 => Call::Update { inode: 1 + self.below(5), fields: self.fields().write() },
+            1 => Call::Normalise { position: self.below(4) },
+            2 => Call::Fold,
+            _ => Call::Snapshot,
+        }
+    }
+
     fn any_name(&mut self) -> Vec<u8> {
         if self.chance(12) { Vec::new() } else { self.name() }
     }
