@@ -3,7 +3,7 @@
 use mathlib.Core.Path.{_≡_, refl, sym, ap, _∙_}
 use mathlib.Core.Option.{Option, none, some}
 use mathlib.Core.Bool.{Bool, true, false}
-use mathlib.Core.List.{List, [], _∷_, _++_}
+use mathlib.Core.List.{List, [], _∷_}
 use Prim.Native.Nat.{ℕ, zero, suc, _+_, _*_, _≤_}
 use native.Mathlib.Omega.{arith}
 use lib.ListN.{length, take, length-map}
@@ -13,8 +13,7 @@ use Rattle.wire.specs.Order.{Order}
 use Rattle.wire.specs.Orders.{byNumber}
 use Rattle.wire.specs.Rows.{choose, lookup, Under, Rising}
 use Rattle.wire.specs.RowLaws.{lookup-under}
-use Rattle.wire.specs.Maps.{Map, get, keep, sift, map-ext, get-keep}
-use Rattle.wire.specs.Number.{edge}
+use Rattle.wire.specs.Maps.{Map, get, keep, map-ext, get-keep}
 use Rattle.wire.specs.Lists.{Every, chain-write, row as rowCodec, onto, lastCount}
 use Rattle.image.specs.Meaning as M
 use Rattle.image.specs.Meaning.{Base, Layer, Batch, Store}

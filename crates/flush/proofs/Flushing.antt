@@ -4,7 +4,7 @@ use mathlib.Core.Path.{_≡_, refl, sym, ap, _∙_}
 use mathlib.Core.Bool.{Bool, true, false, cond}
 use mathlib.Core.Option.{none}
 use mathlib.Core.List.{List, [], _∷_, _++_, append-nil}
-use Prim.Native.Nat.{ℕ, _+_, _≤_}
+use Prim.Native.Nat.{ℕ, _+_}
 use native.Mathlib.Omega.{arith}
 use lib.ListN.{length, take}
 use lib.Seq.{take-length}
@@ -16,13 +16,12 @@ use Rattle.wire.specs.Maps.{empty}
 use Rattle.image.specs.Meaning.{Batch, Layer, Store}
 use Rattle.image.specs.Fits.{FitsStore}
 use Rattle.image.specs.NodeLayout.{base}
-use Rattle.image.specs.RecordLayout.{records}
 use Rattle.image.specs.StoreLayout.{batches}
 use Rattle.survey.specs.Verdict.{verdictOf}
 use Rattle.image.specs.RoundTrip.{writeImage}
 use Rattle.writers.specs.Tails.{TailParts, tail}
 use Rattle.rules.specs.Initial.{usual}
-use Rattle.rules.specs.Answers.{Answer, refused, answer, firstOf}
+use Rattle.rules.specs.Answers.{refused, answer, firstOf}
 use Rattle.rules.specs.Refusals.{isEmpty}
 use Rattle.rules.specs.Calls.{Call}
 use Rattle.rules.specs.Stacks.{withLive, layers}
@@ -33,7 +32,7 @@ use Rattle.rules.specs.ReadCalls.{mapAnswer}
 use Rattle.rules.specs.ChangeCalls.{newImage, foldEntries, snapshotAll}
 use Rattle.rules.proofs.Asked.{over-fine, verdict-refused, number-refused}
 use Rattle.change.specs.Changed.{Changes, ifFits}
-use Rattle.change.specs.Sections.{between, Spans, tailOf, Stands, Opens}
+use Rattle.change.specs.Sections.{Spans, tailOf, Stands, Opens}
 use Rattle.change.specs.declared.answer.ChangeAnswer.{ChangeAnswer}
 use Rattle.change.specs.declared.answer.ChangeAnswer.the-variants as A
 use Rattle.change.specs.declared.section.Sections.{Sections}
@@ -42,13 +41,11 @@ use Rattle.change.proofs.Sections.{span-part, span-front, span-both, span-reads
 use Rattle.change.proofs.Finishing.{changes-refused, changes-made}
 use Rattle.change.proofs.Batches.{queueBytes, batches-bytes}
 use Rattle.walk.specs.Opens.{OpensLayers, Over}
-use Rattle.walk.specs.Walks.{stacksLeft}
 use Rattle.walk.specs.declared.open.Layers.{Layers}
-use Rattle.walk.specs.declared.walk.Walk.{Walk}
-use Rattle.flush.specs.Nodes.{baseBytes, Few}
-use Rattle.flush.specs.Flushes.{emptied, flushed}
+use Rattle.flush.specs.Nodes.{Few}
+use Rattle.flush.specs.Flushes.{flushed}
 use Rattle.flush.specs.declared.write.Flush.the-variants as F
-use Rattle.flush.proofs.Bases.{foldedBase, base-written, walk-few, layers-count}
+use Rattle.flush.proofs.Bases.{base-written, walk-few, layers-count}
 
 -- ---- how a snapshot ends
 

@@ -3,14 +3,13 @@
 use mathlib.Core.Path.{_≡_, refl, sym, ap, subst, _∙_}
 use mathlib.Core.Option.{Option, none, some}
 use mathlib.Core.Bool.{Bool, true, false, cond}
-use mathlib.Core.List.{List, [], _∷_, _++_, append-assoc}
+use mathlib.Core.List.{List, [], _∷_, _++_}
 use Prim.Native.Nat.{ℕ, _+_, _≤_, _<_}
 use native.Mathlib.Omega.{arith}
 use mir.Syntax.{w64}
 use mir.Val.{Fits}
 use denote.Enum.Declared.{tagOf}
 use types.Run.{OneOf}
-use lib.Dec.{eqb}
 use lib.ListN.{length}
 use borrow.Author.Tests.{ne-eqb}
 use Rattle.wire.specs.Number.{edge}
@@ -20,7 +19,6 @@ use Rattle.wire.proofs.Puts.{put-append, put-length}
 use Rattle.image.specs.Meaning as M
 use Rattle.image.specs.Meaning.{kindOf}
 use Rattle.image.specs.FieldLayout.{inode}
-use Rattle.image.specs.NodeLayout.{node}
 use Rattle.survey.specs.declared.batch.InodeLayerStack.{InodeLayerStack}
 use Rattle.rules.specs.Initial.{usual}
 use Rattle.rules.specs.Queue.{isDirectory, kept}

@@ -2,11 +2,11 @@
 -- Assumes nothing.
 use mathlib.Core.Path.{_≡_, refl, sym, ap, _∙_}
 use mathlib.Core.Option.{Option, none, some}
-use mathlib.Core.Bool.{Bool, true, false, cond}
-use mathlib.Core.List.{List, [], _∷_, _++_, append-assoc}
+use mathlib.Core.Bool.{Bool, true, false}
+use mathlib.Core.List.{List, _++_, append-assoc}
 use Prim.Native.Nat.{ℕ, _+_, _-_, _≤_, _<_}
 use native.Mathlib.Omega.{arith}
-use lib.ListN.{length, take, drop, getD, length-append, length-drop}
+use lib.ListN.{length, drop, getD, length-append, length-drop}
 use denote.Enum.Declared.{tagOf}
 use types.Run.{OneOf}
 use Rattle.wire.specs.declared.cursor.Cursor.{Cursor}
@@ -14,15 +14,15 @@ use Rattle.wire.specs.declared.cursor.Cursor.the-variants.{At, Stop}
 use Rattle.wire.specs.Orders.{byBytes}
 use Rattle.wire.specs.Maps.{empty}
 use Rattle.wire.specs.Number.{numberBytes, number-one}
-use Rattle.wire.specs.Parse.{Parsed, fault, got, never-got}
+use Rattle.wire.specs.Parse.{Parsed, got, never-got}
 use Rattle.wire.specs.Put.{Put}
 use Rattle.wire.proofs.Puts.{put-append}
-use Rattle.wire.specs.Reading.{placeAt, part, Reads, give, cursorIn}
+use Rattle.wire.specs.Reading.{placeAt, part, give, cursorIn}
 use Rattle.image.specs.Meaning as M
-use Rattle.image.specs.Meaning.{Body, Entries, Attributes, Kind, kindNumber, kindOf, changedKind, directory, delta}
+use Rattle.image.specs.Meaning.{Entries, Attributes, kindNumber, kindOf, changedKind, directory, delta}
 use Rattle.image.specs.FieldLayout.{attributes, entries}
 use Rattle.image.specs.KindLayout.{kind}
-use Rattle.image.specs.NodeLayout.{bodyPart, bodyPartOf, node}
+use Rattle.image.specs.NodeLayout.{node}
 use Rattle.image.specs.Places.{Ends}
 use Rattle.image.specs.Held.{placeOf}
 use Rattle.image.specs.declared.name.Under.the-variants as U
@@ -33,8 +33,8 @@ use Rattle.rules.specs.Fold.{sameKind, applied, foldRecord}
 use Rattle.rules.specs.PlacedStacks.{recordsOn, nodeAt, unplaced, unplacedNode}
 use Rattle.rules.proofs.Folded.{folded}
 use Rattle.nodes.specs.Listed.{listAt}
-use Rattle.deltas.specs.Deltas.{attrOf, changeMeant, deltaMeant, entryMeant}
-use Rattle.nodes.specs.Nodes.{bodyMeant, nodeMeant}
+use Rattle.deltas.specs.Deltas.{attrOf, changeMeant, deltaMeant}
+use Rattle.nodes.specs.Nodes.{bodyMeant}
 use Rattle.deltas.specs.declared.delta.NodeDelta.{NodeDelta}
 use Rattle.deltas.specs.declared.delta.EntryDelta.{EntryDelta}
 use Rattle.deltas.specs.declared.delta.EntryDelta.the-variants as E
@@ -45,7 +45,7 @@ use Rattle.nodes.proofs.node.NodeKind as kinds
 use Rattle.deltas.proofs.Others.{one-kind, notDirectory}
 use Rattle.attrs.specs.Meant.{kindMeant}
 use Rattle.attrs.specs.declared.node.FileType.{FileType}
-use Rattle.writers.specs.Writes.{metaBytes, metaWith, meta-with-bytes}
+use Rattle.writers.specs.Writes.{metaBytes, meta-with-bytes}
 use Rattle.records.specs.Records.{bodyBytes}
 use Rattle.writers.proofs.Writing.{part-written}
 use Rattle.stack.specs.Stacks.{Stacked, recordsUnder, recordsIn, nodeIn, RecordIs, BaseIs}

@@ -2,17 +2,17 @@
 -- Assumes nothing.
 use mathlib.Core.Path.{_≡_, refl, sym, ap, _∙_}
 use mathlib.Core.Option.{Option, none, some}
-use mathlib.Core.Bool.{Bool, true, false, cond}
+use mathlib.Core.Bool.{Bool, true, false}
 use mathlib.Core.List.{List, [], _∷_, _++_}
 use Prim.Native.Nat.{ℕ}
 use native.Mathlib.Omega.{arith}
 use Rattle.wire.specs.Orders.{byBytes}
 use Rattle.wire.specs.Maps.{meet, merge, empty}
 use Rattle.image.specs.Meaning as M
-use Rattle.image.specs.Meaning.{Special, Kind, Entries, Body, Meta, Changes, Fields, Change, Delta, Record, directory, file, symlink, special, pipe, character, block, socket, tombstone, delta, kindOf, changedKind}
+use Rattle.image.specs.Meaning.{Kind, Entries, Body, Meta, Changes, Fields, Change, Record, directory, file, symlink, special, pipe, character, block, socket, tombstone, delta, kindOf, changedKind}
 use Rattle.image.specs.declared.name.Under.the-variants as U
 use Rattle.rules.specs.Initial.{usual}
-use Rattle.rules.specs.Fold.{addAll, removeAll, alterAll, onBody, applied, firstBody, firstNode, sameKind, foldRecord}
+use Rattle.rules.specs.Fold.{addAll, alterAll, onBody, applied, firstBody, firstNode, sameKind, foldRecord}
 use Rattle.rules.specs.Starts.{Placed, attributesAt, entriesAt, changesAt, addedAt}
 use Rattle.rules.specs.PlacedStacks.{unplaced, unplacedNode}
 use Rattle.rules.proofs.MapValues.{mapValues, map-empty}

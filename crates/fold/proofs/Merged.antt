@@ -12,7 +12,6 @@ use Rattle.wire.specs.declared.order.Ordering.the-variants.{Less, Equal, Greate
 use Rattle.wire.specs.Order.{Order}
 use Rattle.wire.specs.Orders.{byBytes}
 use Rattle.wire.specs.Rows.{choose, lookup, place, insert, remove, set}
-use Rattle.wire.specs.Number.{edge}
 use Rattle.wire.specs.Lists.{Every, chain-write, row, onto, lastCount}
 use Rattle.image.specs.Meaning.{Text, Entries, Attributes}
 use Rattle.image.specs.FieldLayout.{name, inode, value, attributes, entries}

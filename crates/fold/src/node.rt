@@ -10,6 +10,7 @@ use attrs::attr::mode_or;
 use attrs::attr::time_or;
 use attrs::attr::u32_or;
 use attrs::node::delta_type;
+use merge::source::no_value;
 use nodes::attr::AttrDelta;
 use deltas::delta::NodeDelta;
 use deltas::delta::attr_delta;
@@ -19,15 +20,6 @@ use nodes::node::NodeKind;
 use nodes::option::OptionPart;
 use nodes::option::OptionU64;
 use nodes::part::Part;
-
-fn no_part() -> Part
-    ensures { λ r. ⌜ (r .start ≡ 0) × (r .length ≡ 0) ⌝ }
-{
-    Part {
-        start: 0,
-        length: 0,
-    }
-}
 
 // The initial permission and links of a delta's kind; owner, group and times are 0.
 fn initial_meta(delta: NodeDelta) -> InodeMeta
@@ -42,7 +34,7 @@ fn initial_meta(delta: NodeDelta) -> InodeMeta
         atime: epoch(),
         mtime: epoch(),
         ctime: epoch(),
-        xattrs: no_part(),
+        xattrs: no_value(),
     }
 }
 
@@ -74,7 +66,7 @@ fn apply_to_meta(change: AttrDelta, meta: InodeMeta) -> InodeMeta
 fn initial_kind(delta: NodeDelta) -> NodeKind
     ensures { λ r. ⌜ FirstKind delta r ⌝ }
 {
-    let none = no_part();
+    let none = no_value();
     match delta {
         NodeDelta::Directory(_) => NodeKind::Directory {
             parent: 1,

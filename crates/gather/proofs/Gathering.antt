@@ -2,14 +2,13 @@
 -- Assumes nothing.
 use mathlib.Core.Path.{_≡_, refl, sym, ap, _∙_}
 use mathlib.Core.Option.{Option, none, some}
-use mathlib.Core.List.{List, [], _∷_, _++_, map, append-assoc, append-nil}
-use Prim.Native.Nat.{ℕ, zero, suc, _+_, _-_, _*_, _≤_, _<_}
+use mathlib.Core.List.{List, [], _++_, append-assoc, append-nil}
+use Prim.Native.Nat.{ℕ, _+_, _-_, _*_, _≤_, _<_}
 use native.Mathlib.Omega.{arith}
 use lib.ListN.{length, drop, getD, length-append, length-drop}
 use mathlib.Core.Bool.{Bool, true, false, cond}
-use Rattle.wire.specs.declared.cursor.Cursor.the-variants as C
 use Rattle.wire.specs.Parse.{got}
-use Rattle.wire.specs.Number.{numberBytes, number-one}
+use Rattle.wire.specs.Number.{number-one}
 use Rattle.image.specs.Meaning as M
 use Rattle.image.specs.Meaning.{changedKind}
 use Rattle.image.specs.declared.name.Under.{Under}
@@ -18,7 +17,6 @@ use Rattle.survey.specs.declared.batch.InodeLayerStack.{InodeLayerStack}
 use Rattle.image.specs.Held.{placeOf}
 use Rattle.image.specs.NodeLayout.{node}
 use Rattle.image.specs.RecordLayout.{fields, layerRecord}
-use Rattle.wire.specs.Orders.{byBytes}
 use Rattle.nodes.specs.declared.part.Part.{Part}
 use Rattle.deltas.specs.declared.delta.NodeDelta.{NodeDelta}
 use Rattle.deltas.specs.declared.delta.NodeDelta.the-variants as D
@@ -32,8 +30,8 @@ use Rattle.nodes.specs.declared.option.OptionPart.the-variants as P
 use Rattle.nodes.specs.Options.{numberOf}
 use Rattle.nodes.specs.Listed.{byName, listAt, listOf, Listed, ListedIf}
 use Rattle.nodes.specs.Attrs.{fieldsMeant}
-use Rattle.deltas.specs.Deltas.{attrOf, changeMeant, deltaMeant, ChangeListed, ReadsEntry}
-use Rattle.nodes.specs.Nodes.{metaMeant, bodyMeant, nodeMeant, EntriesListed, ReadsNode}
+use Rattle.deltas.specs.Deltas.{attrOf, changeMeant, deltaMeant, ChangeListed}
+use Rattle.nodes.specs.Nodes.{metaMeant, bodyMeant, nodeMeant, EntriesListed}
 use Rattle.rules.specs.Fold.{sameKind}
 use Rattle.rules.specs.Starts.{entriesAt, addedAt}
 use Rattle.rules.specs.PlacedStacks.{recordsOn, nodeAt}
@@ -51,7 +49,7 @@ use Rattle.merge.specs.declared.merge.Sources.{Sources}
 use Rattle.merge.proofs.Lists.{pileRows, rows-append, sourceOf, list-are, pile-ascends}
 use Rattle.wire.specs.Lists.{Every}
 use Rattle.gather.proofs.Shorts.{every-append, delta-short, base-short}
-use Rattle.gather.specs.Gathers.{Short, bodyPile, nodePile, changePile, alterPile, deltaPile, recordPile, pileOf, Gathers}
+use Rattle.gather.specs.Gathers.{Short, bodyPile, nodePile, changePile, alterPile, deltaPile, pileOf, Gathers}
 use Rattle.attrs.specs.Meant.{kindMeant}
 use Rattle.stack.proofs.Walks.{records-more}
 

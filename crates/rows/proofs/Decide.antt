@@ -4,13 +4,11 @@ use mathlib.Core.Path.{_≡_, refl, sym, ap, _∙_}
 use mathlib.Core.Option.{Option, none, some}
 use mathlib.Core.List.{List, [], _∷_, _++_, map}
 use Prim.Native.Nat.{ℕ, _+_}
-use lib.ListN.{length}
-use Rattle.wire.specs.Codec.{Codec}
 use Rattle.wire.specs.Orders.{byBytes}
 use Rattle.wire.specs.Maps.{Map, meet, merge, empty, get, map-ext, get-empty, get-merge}
-use Rattle.image.specs.Meaning.{Text, Entries, Names, Body, Meta, Node, Changes, Fields, Change, Delta, Record, directory, file, symlink, special, tombstone, delta}
+use Rattle.image.specs.Meaning.{Text, Entries, Names, Body, Meta, Node, Changes, Fields, Change, Record, directory, file, symlink, special, tombstone, delta}
 use Rattle.image.specs.Masks.{maybe}
-use Rattle.image.specs.FieldLayout.{inode, value, entries}
+use Rattle.image.specs.FieldLayout.{inode, value}
 use Rattle.image.specs.declared.name.Under.the-variants as U
 use Rattle.wire.specs.Combinators.{nothing}
 use Rattle.rules.specs.Changes.{mapIf}
@@ -23,7 +21,7 @@ use Rattle.rows.specs.declared.listing.Listing.{Listing}
 use Rattle.rows.specs.declared.listing.Listing.the-variants as L
 use Rattle.survey.specs.declared.batch.InodeLayerStack.{InodeLayerStack}
 use Rattle.gather.specs.declared.gather.Lists.the-variants as G
-use Rattle.gather.specs.Gathers.{removedAt, bodyPile, nodePile, changePile, alterPile, deltaPile, recordPile, pileOf, Gathers}
+use Rattle.gather.specs.Gathers.{removedAt, bodyPile, changePile, alterPile, recordPile, pileOf, Gathers}
 use Rattle.stack.specs.Stacks.{recordsIn, nodeIn}
 use Rattle.merge.specs.declared.merge.Sources.{Sources}
 use Rattle.merge.specs.Pile.{merged, itself, decisions}

@@ -19,7 +19,6 @@ use layers::attr::shown_attr;
 use stack::stack::open_image;
 use merge::merge::Counted;
 use merge::merge::Merge;
-use merge::merge::Sources;
 use merge::merge::count_rows;
 use merge::merge::no_sources;
 use merge::merge::settle;

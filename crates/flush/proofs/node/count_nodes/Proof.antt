@@ -1,6 +1,5 @@
 use native.Mathlib.Omega.{arith}
 use lib.ListN.{length}
-use borrow.Author.Needs.{needs}
 use Rattle.flush.proofs.Sifting.{stacksAt, Tallying, tally-none, tally-room, tally-more, tally-less, tally-all}
 use Rattle.flush.proofs.node.count_nodes.Statement.{statement}
 use Rattle.flush.proofs.node.count_nodes.Tie as tie

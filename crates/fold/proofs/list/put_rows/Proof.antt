@@ -1,7 +1,6 @@
 use borrow.Author.Needs.{needs}
 use native.Mathlib.Omega.{arith}
 use lib.ListN.{length}
-use Rattle.wire.proofs.Puts.{put-length}
 use Rattle.merge.specs.Merges.{mergeGives}
 use Rattle.fold.proofs.Spelling.{Writing, writing-less, writing-none, writing-more, writing-all}
 use Rattle.fold.proofs.list.put_rows.Statement.{statement}

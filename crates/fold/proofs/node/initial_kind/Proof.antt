@@ -3,10 +3,10 @@ use Rattle.fold.proofs.node.initial_kind.Statement.{statement}
 use Rattle.fold.proofs.node.initial_kind.Tie as tie
 use Rattle.fold.proofs.node.initial_kind.Reads as reads
 use Rattle.fold.proofs.node.initial_kind.Lts as lts
-use Rattle.fold.proofs.node.no_part.Reads as no-part-reads
+use Rattle.merge.proofs.source.no_value.Reads as no-value-reads
 
-no-part-requires : tie.Need-no-part-requires
-no-part-requires c κs = search needs
+no-value-requires : tie.Need-no-value-requires
+no-value-requires c κs = search needs
 
 enum-told : tie.Need-enum-told
 enum-told c = search needs
@@ -36,7 +36,7 @@ returns-2 : tie.Need-returns-2
 returns-2 c = λ img. rw (c .enum-told2 .given .1)
 
 returns-3 : tie.Need-returns-3
-returns-3 c = λ img. rw (c .enum-told3 .given .1, c .before .before .no-part .ensures .1)
+returns-3 c = λ img. rw (c .enum-told3 .given .1, c .before .before .no-value .ensures .1)
 
 returns-4 : tie.Need-returns-4
 returns-4 c = λ img. rw (c .enum-told4 .given .1)
@@ -54,7 +54,7 @@ pub initial-kind-spec : {M : Type 1} → statement M
 initial-kind-spec =
     tie.close
     (tie.spec
-    no-part-requires
+    no-value-requires
     enum-told
     enum-told-2
     enum-told-3

@@ -7,7 +7,7 @@ use Rattle.attrs.proofs.attr.epoch.Reads as epoch-reads
 use Rattle.attrs.proofs.attr.initial_nlink.Reads as initial-nlink-reads
 use Rattle.attrs.proofs.attr.initial_perm.Reads as initial-perm-reads
 use Rattle.attrs.proofs.node.delta_type.Reads as delta-type-reads
-use Rattle.fold.proofs.node.no_part.Reads as no-part-reads
+use Rattle.merge.proofs.source.no_value.Reads as no-value-reads
 
 delta-type-requires : tie.Need-delta-type-requires
 delta-type-requires c κs = search needs
@@ -27,8 +27,8 @@ epoch-requires-2 c κs = search needs
 epoch-requires-3 : tie.Need-epoch-requires-3
 epoch-requires-3 c κs = search needs
 
-no-part-requires : tie.Need-no-part-requires
-no-part-requires c κs = search needs
+no-value-requires : tie.Need-no-value-requires
+no-value-requires c κs = search needs
 
 returns : tie.Need-returns
 returns c = λ img. rw (c .before .before .before .before .before .initial-perm .ensures, c .before .before .before .before .initial-nlink .ensures, c .before .before .before .before .before .before .delta-type .ensures img, c .before .before .before .epoch .ensures, c .before .before .epoch2 .ensures, c .before .epoch3 .ensures)
@@ -43,5 +43,5 @@ initial-meta-spec =
     epoch-requires
     epoch-requires-2
     epoch-requires-3
-    no-part-requires
+    no-value-requires
     returns)
