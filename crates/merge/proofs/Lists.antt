@@ -19,10 +19,27 @@ use Rattle.nodes.specs.Listed.{byName}
 use Rattle.rules.specs.Starts.{startRows, starts}
 use Rattle.rules.proofs.MapValues.{mapRow, mapValues}
 use Rattle.rules.proofs.ListPlaces.{on}
-use Rattle.merge.specs.Sources.{decided, rowsFrom, listRows}
+use Rattle.merge.specs.Pile.{Ascend, rowsOf, itself}
+use Rattle.merge.specs.Sources.{Given, Decided, decided, rowsFrom, listRows}
+
+abbrev pub Deciding : Type 0
+Deciding = Map byBytes (Option (ℕ × Given))
+
+abbrev pub pileRows : List Deciding → List (List Decided)
+pileRows cs = rowsOf byBytes (itself byBytes) cs
+
+pub pile-ascends : (cs : List Deciding) → Ascend byBytes (pileRows cs)
+unfolding rowsOf
+pile-ascends [] = tt
+pile-ascends (c ∷ cs) = (c .rising, pile-ascends cs)
+
+pub rows-append : (xs ys : List Deciding) → pileRows (xs ++ ys) ≡ pileRows xs ++ pileRows ys
+unfolding rowsOf
+rows-append [] ys = refl
+rows-append (x ∷ xs) ys = rw (rows-append xs ys)
 
 -- a list of the image as a source
-abbrev pub sourceOf : (u : Under) → ℕ → Map byBytes (UnderName u) → Map byBytes (Option (ℕ × ℕ))
+abbrev pub sourceOf : (u : Under) → ℕ → Map byBytes (UnderName u) → Deciding
 sourceOf u p m = mapValues byBytes (decided u) (starts (under u) p m)
 
 module _ (img : List ℕ) (u : Under) where

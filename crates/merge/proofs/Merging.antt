@@ -1,11 +1,11 @@
 -- The loops over the sources, and one row more or less of each.
 -- Assumes nothing.
 use mathlib.Core.Path.{_≡_, refl, sym, ap, _∙_}
-use mathlib.Core.List.{List, [], _∷_, _++_, map}
+use mathlib.Core.List.{List, [], _∷_, _++_, map, append-assoc, append-nil}
 use Prim.Native.Nat.{ℕ, zero, suc, _+_, _-_, _≤_, _<_}
 use native.Mathlib.Omega.{arith}
 use native.Mathlib.Numerals.{add-one}
-use lib.ListN.{length, take, drop, getD, set, replicate, length-replicate, length-set, drop-of-length-le}
+use lib.ListN.{length, length-append, take, drop, getD, set, replicate, length-replicate, length-set, drop-of-length-le}
 use lib.Seq.{drop-cons, getD-take, length-take-le, take-suc-set}
 use Rattle.wire.specs.declared.order.Ordering.{Ordering}
 use Rattle.wire.specs.declared.order.Ordering.the-variants.{Less, Equal, Greater}
@@ -13,9 +13,10 @@ use Rattle.wire.specs.Orders.{byBytes}
 use Rattle.wire.specs.Lists.{Every}
 use Rattle.wire.specs.Reading.{part}
 use Rattle.image.specs.Meaning.{Text}
+use Rattle.image.specs.declared.name.Under.{Under}
 use Rattle.merge.specs.Pile.{pass, passAll, first, upper, least}
-use Rattle.merge.specs.Sources.{Decided, sourceRows, Ended, Inside, RowsOf}
-use Rattle.merge.specs.Merges.{sourcesOf, Whole, NoSources, withSource, Upper, Least, Passed, PassedAll}
+use Rattle.merge.specs.Sources.{Decided, listRows, sourceRows, Ended, Inside, RowsOf, ListOf}
+use Rattle.merge.specs.Merges.{sourcesOf, Whole, NoSources, withSource, Pushes, Upper, Least, Passed, PassedAll}
 use Rattle.merge.specs.declared.source.Source.{Source}
 use Rattle.merge.specs.declared.merge.Sources.{Sources}
 use Rattle.merge.proofs.Sourced.{source-first, ended-inside}
@@ -57,6 +58,27 @@ module _ {img : List ℕ} {all : Sources} (w : Whole img all) (h : all .count < 
   pushed-sources s =
       let wide = w .wide in
       rw (add-one, take-suc-set (all .rows) (all .count) s (omega arith)) (map-snoc (sourceRows img) (take (all .count) (all .rows)) s)
+
+module _ {img : List ℕ} {all : Sources} where
+  pub push-none : Whole img all → Pushes img all [] all
+  push-none w = record { are = sym (append-nil (sourcesOf img all)); more = omega arith; whole = w }
+
+  pub push-one : {u : Under} {p : ℕ} {s : Source} {r : Sources} → Whole img all → all .count < 35 → ListOf img u p s → r ≡ withSource all s → Pushes img all (listRows img u p ∷ []) r
+  push-one {u} {p} {s} {r} w h l e =
+      rw e (record { are = pushed-sources w h s ∙ rw (l .are); more = omega arith; whole = pushed-whole w h (l .inside) })
+
+  pub push-both : {over : Sources} {xs ys : List (List Decided)} {r : Sources} → Pushes img all xs over → Pushes img over ys r → Pushes img all (xs ++ ys) r
+  push-both {over} {xs} {ys} p q = record {
+    are = q .are ∙ rw (p .are) (append-assoc (sourcesOf img all) xs ys);
+    more = omega (arith, p .more, q .more, length-append xs ys);
+    whole = q .whole;
+  }
+
+pub push-two : {img : List ℕ} {all over : Sources} {u v : Under} {p q : ℕ} {s t : Source} {r : Sources} → Whole img all → all .count < 34 → ListOf img u p s → ListOf img v q t → over ≡ withSource all s → r ≡ withSource over t
+    → Pushes img all (listRows img u p ∷ (listRows img v q ∷ [])) r
+push-two w h l k e d =
+    let o = push-one w (omega arith) l e in
+    push-both o (push-one (o .whole) (omega (arith, o .more)) k d)
 
 -- ---- of two sources
 

@@ -13,7 +13,8 @@ use Rattle.wire.specs.Orders.{byBytes}
 use Rattle.wire.specs.Reading.{part}
 use Rattle.merge.specs.Pile.{passAll, total, least, decisions}
 use Rattle.merge.specs.Sources.{rowAt, sourceRows}
-use Rattle.merge.specs.Merges.{sourcesOf, Least, PassedAll, Ready, plainRow, decidedRows, mergeRows, Settles, countOf}
+use Rattle.merge.specs.Merges.{sourcesOf, Least, PassedAll, Ready, givenBy, plainRow, decidedRows, mergeRows, Settles, countOf}
+use Rattle.nodes.specs.declared.part.Part.{Part}
 use Rattle.merge.specs.declared.source.Source.{Source}
 use Rattle.merge.specs.declared.merge.Sources.{Sources}
 use Rattle.merge.specs.declared.merge.Merge.{Merge}
@@ -28,17 +29,18 @@ leftOf img all = total (sourcesOf img all)
 
 -- names that are not given were passed
 pub record Settling (img : List ℕ) (all rest : Sources) : Type 0 where
-  pub same : decidedRows img all ≡ decidedRows img rest
+  pub same : givenBy img all ≡ givenBy img rest
   pub ready : Ready img rest
 
 pub settling-none : {img : List ℕ} {all : Sources} → Ready img all → Settling img all all
 settling-none r = record { same = refl; ready = r }
 
 module _ {img : List ℕ} {all rest : Sources} (g : Settling img all rest) {best : Source} (l : Least img rest best) where
-  pub settled-none : best .left ≡ 0 → Settles img all (record { all = rest; more = false; start = 0; «length» = 0; inode = 0 })
+  pub settled-none : {v : Part} → best .left ≡ 0 → Settles img all (record { all = rest; more = false; start = 0; «length» = 0; inode = 0; value = v })
   settled-none e =
       let n : least byBytes (sourcesOf img rest) ≡ none = rw e at (l .is) in
-      record { rows = g .same ∙ ap (map plainRow) (decisions-end byBytes (sourcesOf img rest) n); ready = g .ready }
+      let d = g .same ∙ decisions-end byBytes (sourcesOf img rest) n in
+      record { gives = d; rows = ap (map plainRow) d; ready = g .ready }
 
   module _ (h : best .left ≡ 0 → ⊥) {next : Sources} (p : PassedAll img rest (best .start) (best .length) next) where
     found : least byBytes (sourcesOf img rest) ≡ some (rowAt img best)
@@ -51,12 +53,13 @@ module _ {img : List ℕ} {all rest : Sources} (g : Settling img all rest) {best
     settling-less = rw (p .are) (decisions-fewer byBytes (sourcesOf img rest) found)
 
     pub settling-more : best .given ≡ false → Settling img all next
-    settling-more e = record { same = g .same ∙ ap (map plainRow) (decisions-step byBytes (sourcesOf img rest) found (g .ready .ascend)) ∙ rw (e, p .are); ready = next-ready }
+    settling-more e = record { same = g .same ∙ decisions-step byBytes (sourcesOf img rest) found (g .ready .ascend) ∙ rw (e, p .are); ready = next-ready }
 
-    pub settled-given : best .given ≡ true → Settles img all (record { all = next; more = true; start = best .start; «length» = best .length; inode = best .inode })
+    pub settled-given : best .given ≡ true → Settles img all (record { all = next; more = true; start = best .start; «length» = best .length; inode = best .inode; value = best .value })
     settled-given e =
         let z : length (part img (best .start) (best .length)) ≡ best .length = length-take-le (best .length) (drop (best .start) img) (omega (arith, length-drop (best .start) img, l .inside .ends)) in
-        record { rows = g .same ∙ ap (map plainRow) (decisions-step byBytes (sourcesOf img rest) found (g .ready .ascend)) ∙ rw (e, p .are, z); ready = next-ready }
+        let d = g .same ∙ decisions-step byBytes (sourcesOf img rest) found (g .ready .ascend) in
+        record { gives = d ∙ rw (e, p .are); rows = ap (map plainRow) d ∙ rw (e, p .are, z); ready = next-ready }
 
 -- ---- how many
 

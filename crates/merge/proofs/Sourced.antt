@@ -19,50 +19,40 @@ use Rattle.wire.specs.Text.{text-read}
 use Rattle.wire.specs.Lists.{lastCount}
 use Rattle.wire.specs.Reading.{Reads, Answers, AnswersPart, cursorIn, give, part}
 use Rattle.wire.proofs.Readers.{read-end}
-use Rattle.image.specs.Places.{passed, Ends, maybe-read}
+use Rattle.image.specs.Places.{maybe-read}
 use Rattle.image.specs.FieldLayout.{name}
 use Rattle.image.specs.Under.{UnderName, under}
 use Rattle.image.specs.declared.name.Under.{Under}
 use Rattle.image.specs.declared.name.Under.the-variants as U
 use Rattle.nodes.specs.declared.option.OptionPart.{OptionPart}
 use Rattle.nodes.specs.declared.option.OptionPart.the-variants as P
-use Rattle.nodes.specs.Options.{textOf}
+use Rattle.nodes.specs.Options.{textAt, textOf}
+use Rattle.nodes.specs.declared.part.Part.{Part}
 use Rattle.nodes.proofs.Values.{reads-made}
 use Rattle.rules.specs.Changes.{mapIf}
 use Rattle.merge.specs.declared.source.Source.{Source}
-use Rattle.merge.specs.Sources.{choice, decided, chosen, chosenRead, isSet, rowsIf, rowsFrom, rowAt, rowsLeft, sourceRows, Chooses, Ended, Inside, RowsOf, ListOf}
+use Rattle.merge.specs.Sources.{Given, choice, decided, chosen, chosenRead, isSet, valueOf, rowsIf, rowsFrom, rowAt, rowsLeft, sourceRows, Chooses, Ended, Inside, RowsOf, ListOf}
 
 -- ---- what stands under a name
 
 module _ {img : List ℕ} {u : Under} {at : Cursor} where
-  pub choice-nothing : u ≡ U.Nothing → cursorIn img at → Chooses img u at false 0 at
+  pub choice-nothing : {v : Part} → u ≡ U.Nothing → cursorIn img at → Chooses img u at false 0 v at
   choice-nothing e w = record { reads = rw e (read-end img w) }
 
-  pub choice-inode : {n : ℕ} {next : Cursor} → u ≡ U.Inode → Answers img (number-read edge) at 0 n next → Chooses img u at true n next
-  choice-inode e h = record { reads = rw e (reads-made (number-read edge) (λ n. some n) (h .reads)) }
+  pub choice-inode : {n : ℕ} {v : Part} {next : Cursor} → u ≡ U.Inode → Answers img (number-read edge) at 0 n next → (v .start ≡ 0) × (v .length ≡ 0) → Chooses img u at true n v next
+  choice-inode e h z = record { reads = rw (e, z .1) (reads-made (number-read edge) (λ n. some (n, [])) (h .reads)) }
 
-set-chosen : (img : List ℕ) (o : OptionPart) → mapIf (λ t. 0) (textOf img o) ≡ chosen (isSet o) 0
+  pub choice-value : {start size : ℕ} {next : Cursor} → u ≡ U.Value → AnswersPart img (text-read 0 4096) at start size next
+      → Chooses img u at true 0 (record { start = start; «length» = size }) next
+  choice-value e h = record { reads = rw e (reads-made (text-read 0 4096) (λ t. some (0, t)) (h .reads)) }
+
+set-chosen : (img : List ℕ) (o : OptionPart) → mapIf (λ t. (0, t)) (textOf img o) ≡ chosen (isSet o) (0, textAt img (valueOf o))
 set-chosen img (P.Some p) = refl
 set-chosen img P.None = refl
 
-pub choice-change : {img : List ℕ} {u : Under} {at : Cursor} (o : OptionPart) {b : Bool} {next : Cursor} → u ≡ U.Change
-    → Reads img (maybe-read (text-read 0 4096)) at (textOf img o) next → b ≡ isSet o → Chooses img u at b 0 next
-choice-change {img} o e h d = record { reads = rw (e, d, ← (set-chosen img o)) (reads-made (maybe-read (text-read 0 4096)) (mapIf (λ t. 0)) h) }
-
--- what was passed, whatever it was, stands for one thing
-ends-made : {A B : Type 0} {img : List ℕ} (p : List ℕ → Parsed A) (b : B) (at next : Cursor) → Ends img p at next → Reads img (λ s. bind (p s) (λ a r. got b r)) at b next
-ends-made {A} {B} {img} p b (Stop f) (At q) h = never-got (h .same)
-ends-made {A} {B} {img} p b (Stop f) (Stop g) h = let e = h .same in record { same = cc; within = tt }
-ends-made {A} {B} {img} p b (At n) next h = record { same = go (p (drop n img)) next (h .same); within = h .within }
-  where
-    go : (o : Parsed A) (next : Cursor) → passed o ≡ give img tt next → bind o (λ a r. got b r) ≡ give img b next
-    go (fault f) (At q) e = never-got e
-    go (fault f) (Stop g) e = cc
-    go (got a r) (At q) e = cc
-    go (got a r) (Stop g) e = never-got (sym e)
-
-pub choice-value : {img : List ℕ} {u : Under} {at next : Cursor} → u ≡ U.Value → Ends img (text-read 0 4096) at next → Chooses img u at true 0 next
-choice-value {at = at} {next} e h = record { reads = rw e (ends-made (text-read 0 4096) (some 0) at next h) }
+pub choice-change : {img : List ℕ} {u : Under} {at : Cursor} (o : OptionPart) {b : Bool} {v : Part} {next : Cursor} → u ≡ U.Change
+    → Reads img (maybe-read (text-read 0 4096)) at (textOf img o) next → b ≡ isSet o → v ≡ valueOf o → Chooses img u at b 0 v next
+choice-change {img} o e h d f = record { reads = rw (e, d, f, ← (set-chosen img o)) (reads-made (maybe-read (text-read 0 4096)) (mapIf (λ t. (0, t))) h) }
 
 -- ---- a row
 
@@ -97,7 +87,7 @@ module _ {img : List ℕ} {u : Under} {n p : ℕ} {s : Source} where
 
 module _ (img : List ℕ) (u : Under) (p start size : ℕ) where
   -- a row is the name and what stands under it
-  row-stop : (named : Cursor) (x : Option ℕ) (f : Fault) → Reads img (name .read) (At p) (part img start size) named → Reads img (chosenRead u) named x (Stop f)
+  row-stop : (named : Cursor) (x : Option Given) (f : Fault) → Reads img (name .read) (At p) (part img start size) named → Reads img (chosenRead u) named x (Stop f)
       → (name then under u) .read (drop p img) ≡ fault f
   row-stop (Stop g) x f t v = let e = v .same in rw (t .same) cc
   row-stop (At m) x f t v = rw (t .same) (go (under u .read (drop m img)) (v .same))
@@ -106,7 +96,7 @@ module _ (img : List ℕ) (u : Under) (p start size : ℕ) where
       go (fault g) e = cc
       go (got a r) e = never-got (sym e)
 
-  row-read : (named : Cursor) (x : Option ℕ) (q : ℕ) → Reads img (name .read) (At p) (part img start size) named → Reads img (chosenRead u) named x (At q)
+  row-read : (named : Cursor) (x : Option Given) (q : ℕ) → Reads img (name .read) (At p) (part img start size) named → Reads img (chosenRead u) named x (At q)
       → (v : UnderName u) × (choice u v ≡ x) × ((name then under u) .read (drop p img) ≡ got (part img start size, v) (drop q img))
   row-read (Stop g) x q t v = never-got (v .same)
   row-read (At m) x q t v = go (under u .read (drop m img)) refl (v .same)
@@ -117,7 +107,7 @@ module _ (img : List ℕ) (u : Under) (p start size : ℕ) where
       go (got a r) d e = let z : r ≡ drop q img = cc in (a, cc, rw (t .same, d, z))
 
   -- the name stands after its length
-  name-start : (named : Cursor) (x : Option ℕ) (q : ℕ) → AnswersPart img (text-read 1 255) (At p) start size named → Reads img (chosenRead u) named x (At q)
+  name-start : (named : Cursor) (x : Option Given) (q : ℕ) → AnswersPart img (text-read 1 255) (At p) start size named → Reads img (chosenRead u) named x (At q)
       → start ≡ p + length (numberBytes (length (part img start size)))
   name-start (Stop g) x q t v = never-got (v .same)
   name-start (At m) x q t v =
@@ -126,19 +116,19 @@ module _ (img : List ℕ) (u : Under) (p start size : ℕ) where
       omega (arith, z, length-append (numberBytes (length k)) k, length-take-le size (drop start img) (omega (arith, length-drop start img, t .inside)), t .ends)
 
 module _ {img : List ℕ} {u : Under} {n p start size : ℕ} {named : Cursor} (h : n ≡ 0 → ⊥) (t : AnswersPart img (text-read 1 255) (At p) start size named)
-    {b : Bool} {i : ℕ} {next : Cursor} (v : Chooses img u named b i next) where
+    {b : Bool} {i : ℕ} {value : Part} {next : Cursor} (v : Chooses img u named b i value next) where
   pub from-stop : {f : Fault} {s : Source} → next ≡ Stop f → Ended s → RowsOf img u n p s
-  from-stop {f} e d = record { are = rw (d .none-left, rows-first img u n p h, row-stop img u p start size named (chosen b i) f (t .reads) (rw e at (v .reads))); inside = ended-inside d }
+  from-stop {f} e d = record { are = rw (d .none-left, rows-first img u n p h, row-stop img u p start size named (chosen b (i, textAt img value)) f (t .reads) (rw e at (v .reads))); inside = ended-inside d }
 
-  pub from-row : {q : ℕ} → next ≡ At q → RowsOf img u n p (record { what = u; left = n; start = start; «length» = size; given = b; inode = i; next = q })
+  pub from-row : {q : ℕ} → next ≡ At q → RowsOf img u n p (record { what = u; left = n; start = start; «length» = size; given = b; inode = i; value = value; next = q })
   from-row {q} e =
-      let d : Reads img (chosenRead u) named (chosen b i) (At q) = rw e at (v .reads) in
+      let d : Reads img (chosenRead u) named (chosen b (i, textAt img value)) (At q) = rw e at (v .reads) in
       let k = part img start size in
-      let r = row-read img u p start size named (chosen b i) q (t .reads) d in
+      let r = row-read img u p start size named (chosen b (i, textAt img value)) q (t .reads) d in
       let w = name .write k ++ under u .write (r .0) in
       let long : 1 ≤ length w = simp length-append (omega (arith, number-one (length k))) in
       let z : q ≡ p + length w = read-on img (name then under u) (k, r .0) p q long (d .within) (r .2) in
-      let y = name-start img u p start size named (chosen b i) q t d in
+      let y = name-start img u p start size named (chosen b (i, textAt img value)) q t d in
       record { are = source-first img _ h ∙ rw (rows-first img u n p h, r .2, r .1, ← y, ← z); inside = record { ends = t .inside } }
 
 -- ---- a list, its count first

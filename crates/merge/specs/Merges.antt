@@ -9,9 +9,13 @@ use Rattle.wire.specs.Orders.{byBytes}
 use Rattle.wire.specs.Lists.{Every}
 use Rattle.wire.specs.Reading.{part}
 use Rattle.image.specs.Meaning.{Text}
+use Rattle.image.specs.declared.name.Under.{Under}
+use Rattle.nodes.specs.Options.{textAt}
+use Rattle.nodes.specs.declared.option.OptionPart.{OptionPart}
+use Rattle.nodes.specs.declared.option.OptionPart.the-variants as P
 use Rattle.rules.specs.ReadCalls.{Row, rowOf}
 use Rattle.merge.specs.Pile.{pass, passAll, Ascend, first, upper, least, decisions}
-use Rattle.merge.specs.Sources.{Decided, sourceRows, Inside}
+use Rattle.merge.specs.Sources.{Given, Decided, listRows, sourceRows, Inside}
 use Rattle.merge.specs.declared.source.Source.{Source}
 use Rattle.merge.specs.declared.merge.Sources.{Sources}
 use Rattle.merge.specs.declared.merge.Merge.{Merge}
@@ -34,6 +38,17 @@ pub record NoSources (r : Sources) : Type 0 where
 
 abbrev pub withSource : Sources → Source → Sources
 withSource all s = record { rows = set (all .rows) (all .count) s; count = all .count + 1 }
+
+-- the list of a part, as a source
+abbrev pub listsIf : List ℕ → Under → OptionPart → List (List Decided)
+listsIf img u (P.Some p) = listRows img u (p .start) ∷ []
+listsIf img u P.None = []
+
+-- sources more, beneath the others
+pub record Pushes (img : List ℕ) (all : Sources) (lists : List (List Decided)) (r : Sources) : Type 0 where
+  pub are : sourcesOf img r ≡ sourcesOf img all ++ lists
+  pub more : r .count ≡ all .count + length lists
+  pub whole : Whole img r
 
 pub record Upper (img : List ℕ) (a b r : Source) : Type 0 where
   pub is : upper byBytes (first byBytes (sourceRows img a)) (first byBytes (sourceRows img b)) ≡ first byBytes (sourceRows img r)
@@ -58,17 +73,24 @@ pub record Ready (img : List ℕ) (all : Sources) : Type 0 where
   pub whole : Whole img all
   pub ascend : Ascend byBytes (sourcesOf img all)
 
-abbrev pub plainRow : Text × (ℕ × ℕ) → Row
-plainRow = rowOf (λ inode. inode)
+-- what the sources decide: the names that are given
+abbrev pub givenBy : List ℕ → Sources → List (Text × (ℕ × Given))
+givenBy img all = decisions byBytes (sourcesOf img all)
 
--- what the sources decide, as rows
+abbrev pub plainRow : Text × (ℕ × Given) → Row
+plainRow = rowOf (λ g. g .0)
+
+-- the same as rows
 abbrev pub decidedRows : List ℕ → Sources → List Row
-decidedRows img all = map plainRow (decisions byBytes (sourcesOf img all))
+decidedRows img all = map plainRow (givenBy img all)
 
 abbrev pub rowOfMerge : Merge → Row
 rowOfMerge m = record { start = m .start; «length» = m .length; inode = m .inode }
 
-abbrev pub rowsIfMore : Bool → Row → List Row → List Row
+abbrev pub givenOfMerge : List ℕ → Merge → Text × (ℕ × Given)
+givenOfMerge img m = (part img (m .start) (m .length), (m .start, (m .inode, textAt img (m .value))))
+
+abbrev pub rowsIfMore : {A : Type 0} → Bool → A → List A → List A
 rowsIfMore true r l = r ∷ l
 rowsIfMore false r l = []
 
@@ -76,7 +98,12 @@ rowsIfMore false r l = []
 abbrev pub mergeRows : List ℕ → Merge → List Row
 mergeRows img m = rowsIfMore (m .more) (rowOfMerge m) (decidedRows img (m .all))
 
+-- the same with what each name is given
+abbrev pub mergeGives : List ℕ → Merge → List (Text × (ℕ × Given))
+mergeGives img m = rowsIfMore (m .more) (givenOfMerge img m) (givenBy img (m .all))
+
 pub record Settles (img : List ℕ) (all : Sources) (m : Merge) : Type 0 where
+  pub gives : givenBy img all ≡ mergeGives img m
   pub rows : decidedRows img all ≡ mergeRows img m
   pub ready : Ready img (m .all)
 

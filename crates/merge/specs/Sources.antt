@@ -1,5 +1,5 @@
 -- Lists by name as sources of a listing. Document 01: "From the bottom: tombstone clears, a directory delta removes then adds, other kinds
--- do nothing." So the topmost list that has a name decides it: the name is given, with its start and an inode, or removed.
+-- do nothing." So the topmost list that has a name decides it: the name is given, with its start and an inode or a value, or removed.
 use mathlib.Core.Path.{_≡_}
 use mathlib.Core.Option.{Option, none, some}
 use mathlib.Core.Bool.{Bool, true, false}
@@ -17,35 +17,45 @@ use Rattle.image.specs.FieldLayout.{name}
 use Rattle.image.specs.Under.{UnderName, under}
 use Rattle.image.specs.declared.name.Under.{Under}
 use Rattle.image.specs.declared.name.Under.the-variants as U
+use Rattle.nodes.specs.declared.part.Part.{Part}
+use Rattle.nodes.specs.Options.{textAt}
 use Rattle.nodes.specs.declared.option.OptionPart.{OptionPart}
 use Rattle.nodes.specs.declared.option.OptionPart.the-variants as P
 use Rattle.rules.specs.Changes.{mapIf}
 use Rattle.merge.specs.declared.source.Source.{Source}
 
--- a row of a source: a name, and whether it is given, with its start and inode
+-- what a name is given: an inode; a value
+abbrev pub Given : Type 0
+Given = ℕ × Text
+
+-- a row of a source: a name, and whether it is given, with its start and what it is given
 abbrev pub Decided : Type 0
-Decided = Text × Option (ℕ × ℕ)
+Decided = Text × Option (ℕ × Given)
 
 -- what stands under a name: "removed"; "entries (name, inode)"; "attributes (name, value)"; "0 removed or 1 and value"; "inode 0"
-abbrev pub choice : (u : Under) → UnderName u → Option ℕ
+abbrev pub choice : (u : Under) → UnderName u → Option Given
 choice U.Nothing v = none
-choice U.Inode v = some v
-choice U.Value v = some 0
-choice U.Change v = mapIf (λ t. 0) v
+choice U.Inode v = some (v, [])
+choice U.Value v = some (0, v)
+choice U.Change v = mapIf (λ t. (0, t)) v
 
-abbrev pub decided : (u : Under) → ℕ × UnderName u → Option (ℕ × ℕ)
-decided u x = mapIf (λ i. (x .0, i)) (choice u (x .1))
+abbrev pub decided : (u : Under) → ℕ × UnderName u → Option (ℕ × Given)
+decided u x = mapIf (λ g. (x .0, g)) (choice u (x .1))
 
-abbrev pub chosen : Bool → ℕ → Option ℕ
-chosen true i = some i
-chosen false i = none
+abbrev pub chosen : Bool → Given → Option Given
+chosen true g = some g
+chosen false g = none
 
-abbrev pub chosenRead : Under → List ℕ → Parsed (Option ℕ)
+abbrev pub chosenRead : Under → List ℕ → Parsed (Option Given)
 chosenRead u s = bind (under u .read s) (λ v r. got (choice u v) r)
 
 abbrev pub isSet : OptionPart → Bool
 isSet (P.Some p) = true
 isSet P.None = false
+
+abbrev pub valueOf : OptionPart → Part
+valueOf (P.Some p) = p
+valueOf P.None = record { start = 0; «length» = 0 }
 
 abbrev pub rowsIf : {A B : Type 0} → Parsed A → (A → List B) → List B
 rowsIf (fault f) g = []
@@ -65,7 +75,7 @@ listRows img u p = rowsIf (number-read lastCount (drop p img)) (λ n. rowsFrom i
 
 -- the rows of a source: the one that it is at, and those that follow
 abbrev pub rowAt : List ℕ → Source → Decided
-rowAt img s = (part img (s .start) (s .length), mapIf (λ i. (s .start, i)) (chosen (s .given) (s .inode)))
+rowAt img s = (part img (s .start) (s .length), mapIf (λ g. (s .start, g)) (chosen (s .given) (s .inode, textAt img (s .value))))
 
 abbrev pub rowsLeft : List ℕ → Source → ℕ → List Decided
 rowsLeft img s zero = []
@@ -76,8 +86,8 @@ sourceRows img s = rowsLeft img s (s .left)
 
 -- ---- what the readers of a source promise
 
-pub record Chooses (img : List ℕ) (u : Under) (at : Cursor) (given : Bool) (inode : ℕ) (next : Cursor) : Type 0 where
-  pub reads : Reads img (chosenRead u) at (chosen given inode) next
+pub record Chooses (img : List ℕ) (u : Under) (at : Cursor) (given : Bool) (inode : ℕ) (value : Part) (next : Cursor) : Type 0 where
+  pub reads : Reads img (chosenRead u) at (chosen given (inode, textAt img value)) next
 
 pub record Ended (s : Source) : Type 0 where
   pub none-left : s .left ≡ 0

@@ -2,10 +2,17 @@
 ghost use Prim.Native.Nat.{_<_};
 ghost use lib.ListN.{length};
 ghost use mathlib.Core.Path.{_≡_};
-ghost use Rattle.merge.specs.Merges.{Whole, NoSources, withSource, Upper, Least, Passed, PassedAll, Ready, mergeRows, Settles, countOf};
+ghost use mathlib.Core.List.{[], _∷_};
+ghost use Rattle.merge.specs.Sources.{listRows};
+ghost use Rattle.merge.specs.Merges.{Whole, NoSources, withSource, listsIf, Pushes, Upper, Least, Passed, PassedAll, Ready, mergeRows, Settles, countOf};
 use crate::source::Source;
 use crate::source::no_source;
+use crate::source::no_value;
+use crate::source::source_at;
 use crate::source::source_from;
+use image::name::Under;
+use nodes::option::OptionPart;
+use nodes::part::Part;
 use wire::order::Ordering;
 use wire::order::compare_part;
 use wire::part::part;
@@ -16,13 +23,14 @@ pub struct Sources {
     pub count: usize,
 }
 
-// The first name that is given, with its start and inode, and the sources past it; or that no more is given.
+// The first name that is given, with its start, inode and value, and the sources past it; or that no more is given.
 pub struct Merge {
     pub all: Sources,
     pub more: bool,
     pub start: usize,
     pub length: usize,
     pub inode: u64,
+    pub value: Part,
 }
 
 // How many rows there are, or that there is no room for them.
@@ -49,6 +57,25 @@ pub fn push_source(all: Sources, source: Source) -> Sources
     out.rows[at] = source;
     out.count = at + 1;
     out
+}
+
+// The list at a part of the image, beneath the others.
+pub fn push_list(img: &[u8], all: Sources, list: Part, what: Under) -> Sources
+    requires { ⌜ Whole (now img) all × (all .count < 35) ⌝ }
+    ensures { λ r. ⌜ Pushes (now (img .entry)) all (listRows (now (img .entry)) what (list .start) ∷ []) r ⌝ }
+{
+    push_source(all, source_at(img, list.start, what))
+}
+
+// The same, if there is a list.
+pub fn push_list_if(img: &[u8], all: Sources, option: OptionPart, what: Under) -> Sources
+    requires { ⌜ Whole (now img) all × (all .count < 35) ⌝ }
+    ensures { λ r. ⌜ Pushes (now (img .entry)) all (listsIf (now (img .entry)) what option) r ⌝ }
+{
+    match option {
+        OptionPart::Some(list) => push_list(img, all, list, what),
+        OptionPart::None => all,
+    }
 }
 
 // Of two sources the one whose name is less; of equal names the upper.
@@ -125,6 +152,7 @@ pub fn settle(img: &[u8], all: Sources) -> Merge
     let mut rest = all;
     loop {
         let best = least(img, rest);
+        let value = best.value;
         if best.left == 0 {
             return Merge {
                 all: rest,
@@ -132,6 +160,7 @@ pub fn settle(img: &[u8], all: Sources) -> Merge
                 start: 0,
                 length: 0,
                 inode: 0,
+                value: no_value(),
             };
         }
         rest = pass_all(img, rest, best.start, best.length);
@@ -142,6 +171,7 @@ pub fn settle(img: &[u8], all: Sources) -> Merge
                 start: best.start,
                 length: best.length,
                 inode: best.inode,
+                value,
             };
         }
     }

@@ -1,17 +1,17 @@
 // Sources of a listing: lists by name in the image, each at a row of it.
 ghost use mathlib.Core.Path.{_≡_};
 ghost use Rattle.wire.specs.Reading.{cursorIn};
-ghost use Rattle.merge.specs.Sources.{isSet, Chooses, Ended, RowsOf, ListOf};
-use image::field::pass_text;
+ghost use Rattle.merge.specs.Sources.{isSet, valueOf, Chooses, Ended, RowsOf, ListOf};
 use image::name::Under;
 use nodes::option::OptionPart;
 use nodes::option::read_maybe_text;
+use nodes::part::Part;
 use wire::cursor::Cursor;
 use wire::number::read_number;
 use wire::text::read_text;
 
-// A list by name, at the first of the rows that are left. The row gives its name to an inode, or removes it; what follows is at `next`.
-// With no rows left, it says nothing.
+// A list by name, at the first of the rows that are left. The row gives its name an inode or a value, or removes it; what follows is at
+// `next`. With no rows left, it says nothing.
 pub struct Source {
     pub what: Under,
     pub left: u64,
@@ -19,24 +19,27 @@ pub struct Source {
     pub length: usize,
     pub given: bool,
     pub inode: u64,
+    pub value: Part,
     pub next: usize,
 }
 
 pub struct Choice {
     pub given: bool,
     pub inode: u64,
+    pub value: Part,
     pub next: Cursor,
 }
 
-// What stands under a name: whether the name is given, and to which inode; 0 where there is none.
+// What stands under a name: whether the name is given, with which inode, and with which value; where there is none, 0 and an empty text.
 fn read_choice(img: &[u8], at: Cursor, what: Under) -> Choice
     requires { ⌜ cursorIn (now img) at ⌝ }
-    ensures { λ r. ⌜ Chooses (now (img .entry)) what at (r .given) (r .inode) (r .next) ⌝ }
+    ensures { λ r. ⌜ Chooses (now (img .entry)) what at (r .given) (r .inode) (r .value) (r .next) ⌝ }
 {
     match what {
         Under::Nothing => Choice {
             given: false,
             inode: 0,
+            value: no_value(),
             next: at,
         },
         Under::Inode => {
@@ -45,21 +48,32 @@ fn read_choice(img: &[u8], at: Cursor, what: Under) -> Choice
             Choice {
                 given: true,
                 inode: number.value,
+                value: no_value(),
                 next,
             }
         }
-        Under::Value => Choice {
-            given: true,
-            inode: 0,
-            next: pass_text(img, at, 0, 4096),
-        },
+        Under::Value => {
+            let text = read_text(img, at, 0, 4096);
+            let next = text.next;
+            let value = Part {
+                start: text.start,
+                length: text.length,
+            };
+            Choice {
+                given: true,
+                inode: 0,
+                value,
+                next,
+            }
+        }
         Under::Change => {
             let change = read_maybe_text(img, at, 4096);
-            let value = change.option;
+            let option = change.option;
             let next = change.next;
             Choice {
-                given: is_set(value),
+                given: is_set(option),
                 inode: 0,
+                value: value_of(option),
                 next,
             }
         }
@@ -75,6 +89,28 @@ fn is_set(value: OptionPart) -> bool
     }
 }
 
+// An empty text.
+pub fn no_value() -> Part
+    ensures { λ r. ⌜ (r .start ≡ 0) × (r .length ≡ 0) ⌝ }
+{
+    Part {
+        start: 0,
+        length: 0,
+    }
+}
+
+fn value_of(value: OptionPart) -> Part
+    ensures { λ r. ⌜ r ≡ valueOf value ⌝ }
+{
+    match value {
+        OptionPart::Some(text) => text,
+        OptionPart::None => Part {
+            start: 0,
+            length: 0,
+        },
+    }
+}
+
 // A source with no rows left.
 pub fn no_source() -> Source
     ensures { λ r. ⌜ Ended r ⌝ }
@@ -86,6 +122,7 @@ pub fn no_source() -> Source
         length: 0,
         given: false,
         inode: 0,
+        value: no_value(),
         next: 0,
     }
 }
@@ -100,6 +137,7 @@ pub fn source_from(img: &[u8], at: usize, left: u64, what: Under) -> Source
     let name = read_text(img, Cursor::At(at), 1, 255);
     let named = name.next;
     let choice = read_choice(img, named, what);
+    let value = choice.value;
     let end = choice.next;
     match end {
         Cursor::At(next) => Source {
@@ -109,6 +147,7 @@ pub fn source_from(img: &[u8], at: usize, left: u64, what: Under) -> Source
             length: name.length,
             given: choice.given,
             inode: choice.inode,
+            value,
             next,
         },
         Cursor::Stop(_) => no_source(),

@@ -1,7 +1,5 @@
 -- Laws that the proofs of more than one function use, and that the crates above cite.
-pub mod Others
 pub mod Decide
-pub mod Gathers
 pub mod Planning
 pub mod Listed
 pub mod LentRows

@@ -14,9 +14,12 @@ use Rattle.image.specs.declared.batch.InodeLayerStack.{InodeLayerStack}
 use Rattle.rules.specs.ReadCalls.{Row}
 use Rattle.layers.specs.Stacks.{recordsIn, nodeIn}
 use Rattle.merge.specs.Merges.{NoSources, Ready, decidedRows, rowOfMerge, rowsIfMore, mergeRows, Settles, countOf}
-use Rattle.rows.specs.Listings.{rowsListed, Gathers}
+use Rattle.gather.specs.Gathers.{Gathers}
+use Rattle.rows.specs.Listings.{listsOf, rowsListed}
+use Rattle.rows.proofs.Decide.{gathered-rows}
 use Rattle.rows.specs.Plans.{entryOf, roomFor, answerOf, NoRows, Fits, Plans, countIn, planCount, planRow, planAnswer, Advances, Filled}
 use Rattle.rows.specs.declared.listing.Listing.{Listing}
+use Rattle.nodes.specs.declared.part.Part.{Part}
 use Rattle.merge.specs.declared.merge.Sources.{Sources}
 use Rattle.merge.specs.declared.merge.Merge.{Merge}
 use Rattle.merge.specs.declared.merge.Counted.{Counted}
@@ -26,8 +29,8 @@ use Rattle.layers.specs.declared.answer.RowsAnswer.the-variants as A
 use Rattle.rows.specs.declared.listing.Entry.{Entry}
 use Rattle.rows.specs.declared.listing.Plan.{Plan}
 
-pub no-rows : {all : Sources} {a : RowsAnswer} → NoSources all
-    → NoRows a (record { merge = record { all = all; more = false; start = 0; «length» = 0; inode = 0 }; answer = a })
+pub no-rows : {all : Sources} {v : Part} {a : RowsAnswer} → NoSources all
+    → NoRows a (record { merge = record { all = all; more = false; start = 0; «length» = 0; inode = 0; value = v }; answer = a })
 no-rows n = record { answers = refl; none-left = λ img. refl; ready = λ img. record { whole = n .whole img; ascend = rw (n .none-yet) tt } }
 
 pub advanced : {img : List ℕ} {p : Plan} {m : Merge} → Settles img (p .merge .all) m → Advances img p (record { merge = m; answer = p .answer })
@@ -53,9 +56,9 @@ counted-many room count = go (ltb room count) refl
     go true h e = h
     go false h e = absurd (let z : _≡_ {A = ℕ} 0 1 = cc in omega arith)
 
-module _ {img : List ℕ} {s : InodeLayerStack} {l : Listing} {all : Sources} (g : Gathers img s l all) {m : Merge} (t : Settles img all m) where
+module _ {img : List ℕ} {s : InodeLayerStack} (l : Listing) {all : Sources} (g : Gathers img s (listsOf l) all) {m : Merge} (t : Settles img all m) where
   same-rows : mergeRows img m ≡ rowsListed l (recordsIn img s) (nodeIn img s)
-  same-rows = sym (t .rows) ∙ g .rows
+  same-rows = sym (t .rows) ∙ gathered-rows l g
 
   pub planned : {room : ℕ} {c : Counted} → c ≡ countOf (length (mergeRows img m)) room → {n : ℕ} → c ≡ C.Rows n → Plans img (roomFor room (rowsListed l (recordsIn img s) (nodeIn img s))) room (record { merge = m; answer = A.Rows n })
   planned {room} k {n} e =

@@ -1,13 +1,8 @@
-// Listings: the sources of a stack, from the top: of each record the lists that say something of names, down to a tombstone or the base; and
-// the rows that they decide.
-ghost use Prim.Native.Nat.{_<_};
+// Listings: the rows that the sources of a stack decide.
 ghost use mathlib.Core.Path.{_≡_};
-ghost use mathlib.Core.List.{[], _∷_};
-ghost use Rattle.nodes.specs.Deltas.{attrOf};
 ghost use Rattle.layers.specs.Stacks.{Stacked, recordsIn, nodeIn};
-ghost use Rattle.merge.specs.Sources.{listRows};
-ghost use Rattle.merge.specs.Merges.{Whole, Ready};
-ghost use Rattle.rows.specs.Listings.{Pushes, Gathers, changeLists, alterLists, deltaLists, recordLists, isTombstone, entryLists, nodeLists, baseLists, rowsListed};
+ghost use Rattle.merge.specs.Merges.{Ready};
+ghost use Rattle.rows.specs.Listings.{listsOf, rowsListed};
 ghost use Rattle.rows.specs.Plans.{NoRows, Plans, Fits, Advances, Filled, isDirectory, isListed, listCall, roomFor, planCount, planRow, planAnswer};
 ghost use Rattle.rules.specs.Initial.{usual};
 ghost use Rattle.rules.specs.ReadCalls.{listDirectory, listXattrs};
@@ -15,30 +10,20 @@ ghost use Rattle.attrs.specs.Meant.{kindMeant};
 ghost use Rattle.layers.specs.Attrs.{attrIf};
 ghost use lib.ListN.{length};
 use attrs::node::FileType;
+use gather::gather::Lists;
+use gather::gather::gather_sources;
 use image::batch::InodeLayerStack;
-use image::name::Under;
 use layers::answer::RowsAnswer;
 use layers::attr::OptionAttr;
 use layers::attr::shown_attr;
-use layers::stack::OptionNode;
-use layers::stack::base_node;
 use layers::stack::open_image;
-use layers::stack::record_at;
 use merge::merge::Counted;
 use merge::merge::Merge;
 use merge::merge::Sources;
 use merge::merge::count_rows;
 use merge::merge::no_sources;
-use merge::merge::push_source;
 use merge::merge::settle;
-use merge::source::source_at;
-use nodes::delta::EntryDelta;
-use nodes::delta::NodeDelta;
-use nodes::delta::attr_delta;
-use nodes::node::Node;
-use nodes::node::NodeKind;
-use nodes::option::OptionPart;
-use nodes::part::Part;
+use merge::source::no_value;
 
 // The names of a directory's entries, or those of the attributes.
 pub enum Listing {
@@ -46,125 +31,13 @@ pub enum Listing {
     Attributes,
 }
 
-fn push_list(img: &[u8], all: Sources, list: Part, what: Under) -> Sources
-    requires { ⌜ Whole (now img) all × (all .count < 35) ⌝ }
-    ensures { λ r. ⌜ Pushes (now (img .entry)) all (listRows (now (img .entry)) what (list .start) ∷ []) r ⌝ }
-{
-    push_source(all, source_at(img, list.start, what))
-}
-
-// What a directory delta adds is over what it removes.
-fn push_change(img: &[u8], all: Sources, delta: NodeDelta) -> Sources
-    requires { ⌜ Whole (now img) all × (all .count < 34) ⌝ }
-    ensures { λ r. ⌜ Pushes (now (img .entry)) all (changeLists (now (img .entry)) delta) r ⌝ }
-{
-    let NodeDelta::Directory(directory) = delta else {
-        return all;
-    };
-    let added = directory.added;
-    let removed = directory.removed;
-    let over = source_at(img, added.start, Under::Inode);
-    let under = source_at(img, removed.start, Under::Nothing);
-    push_source(push_source(all, over), under)
-}
-
-// The attribute changes of a delta, whatever its kind.
-fn changes_of(delta: NodeDelta) -> OptionPart
-    ensures { λ r. ⌜ r ≡ attrOf delta .xattrs ⌝ }
-{
-    let attr = attr_delta(delta);
-    attr.xattrs
-}
-
-fn push_changes(img: &[u8], all: Sources, changes: OptionPart) -> Sources
-    requires { ⌜ Whole (now img) all × (all .count < 35) ⌝ }
-    ensures { λ r. ⌜ Pushes (now (img .entry)) all (alterLists (now (img .entry)) changes) r ⌝ }
-{
-    match changes {
-        OptionPart::Some(list) => push_list(img, all, list, Under::Change),
-        OptionPart::None => all,
-    }
-}
-
-fn push_delta(img: &[u8], all: Sources, delta: NodeDelta, listing: Listing) -> Sources
-    requires { ⌜ Whole (now img) all × (all .count < 34) ⌝ }
-    ensures { λ r. ⌜ Pushes (now (img .entry)) all (deltaLists (now (img .entry)) listing delta) r ⌝ }
+fn lists_of(listing: Listing) -> Lists
+    ensures { λ r. ⌜ r ≡ listsOf listing ⌝ }
 {
     match listing {
-        Listing::Entries => push_change(img, all, delta),
-        Listing::Attributes => push_changes(img, all, changes_of(delta)),
+        Listing::Entries => Lists::Entries,
+        Listing::Attributes => Lists::Attributes,
     }
-}
-
-fn push_record(img: &[u8], all: Sources, entry: EntryDelta, listing: Listing) -> Sources
-    requires { ⌜ Whole (now img) all × (all .count < 34) ⌝ }
-    ensures { λ r. ⌜ Pushes (now (img .entry)) all (recordLists (now (img .entry)) listing entry) r ⌝ }
-{
-    match entry {
-        EntryDelta::Node(delta) => push_delta(img, all, delta, listing),
-        EntryDelta::Tombstone => all,
-    }
-}
-
-fn push_entries(img: &[u8], all: Sources, kind: NodeKind) -> Sources
-    requires { ⌜ Whole (now img) all × (all .count < 35) ⌝ }
-    ensures { λ r. ⌜ Pushes (now (img .entry)) all (entryLists (now (img .entry)) kind) r ⌝ }
-{
-    match kind {
-        NodeKind::Directory { parent: _, entries } => push_list(img, all, entries, Under::Inode),
-        _ => all,
-    }
-}
-
-fn push_node(img: &[u8], all: Sources, node: Node, listing: Listing) -> Sources
-    requires { ⌜ Whole (now img) all × (all .count < 35) ⌝ }
-    ensures { λ r. ⌜ Pushes (now (img .entry)) all (nodeLists (now (img .entry)) listing node) r ⌝ }
-{
-    let kind = node.kind;
-    let meta = node.meta;
-    let attributes = meta.xattrs;
-    match listing {
-        Listing::Entries => push_entries(img, all, kind),
-        Listing::Attributes => push_list(img, all, attributes, Under::Value),
-    }
-}
-
-fn push_base(img: &[u8], all: Sources, base: OptionNode, listing: Listing) -> Sources
-    requires { ⌜ Whole (now img) all × (all .count < 35) ⌝ }
-    ensures { λ r. ⌜ Pushes (now (img .entry)) all (baseLists (now (img .entry)) listing base) r ⌝ }
-{
-    match base {
-        OptionNode::Some(node) => push_node(img, all, node, listing),
-        OptionNode::None => all,
-    }
-}
-
-// A tombstone clears: nothing below it is listed.
-fn is_tombstone(entry: EntryDelta) -> bool
-    ensures { λ r. ⌜ r ≡ isTombstone entry ⌝ }
-{
-    match entry {
-        EntryDelta::Node(_) => false,
-        EntryDelta::Tombstone => true,
-    }
-}
-
-// The sources of a stack.
-fn gather_sources(img: &[u8], stack: InodeLayerStack, listing: Listing) -> Sources
-    requires { ⌜ Stacked (now img) stack ⌝ }
-    ensures { λ r. ⌜ Gathers (now (img .entry)) stack listing r ⌝ }
-{
-    let mut all = no_sources();
-    let mut i = stack.count;
-    while 0 < i {
-        i -= 1;
-        let record = record_at(img, stack, i);
-        if is_tombstone(record) {
-            return all;
-        }
-        all = push_record(img, all, record, listing);
-    }
-    push_base(img, all, base_node(img, stack), listing)
 }
 
 // A row of a listing: where the name starts in the image, its length, and the inode; 0 for an attribute.
@@ -191,6 +64,7 @@ fn no_rows(answer: RowsAnswer) -> Plan
             start: 0,
             length: 0,
             inode: 0,
+            value: no_value(),
         },
         answer,
     }
@@ -201,7 +75,7 @@ fn plan_rows(img: &[u8], stack: InodeLayerStack, listing: Listing, room: usize) 
     requires { ⌜ Stacked (now img) stack ⌝ }
     ensures { λ r. ⌜ Plans (now (img .entry)) (roomFor room (rowsListed listing (recordsIn (now (img .entry)) stack) (nodeIn (now (img .entry)) stack))) room r ⌝ }
 {
-    let merge = settle(img, gather_sources(img, stack, listing));
+    let merge = settle(img, gather_sources(img, stack, lists_of(listing)));
     match count_rows(img, merge, room) {
         Counted::Rows(count) => Plan {
             merge,

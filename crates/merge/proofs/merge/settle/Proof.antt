@@ -6,6 +6,7 @@ use Rattle.merge.proofs.merge.settle.Reads as reads
 use Rattle.merge.proofs.merge.settle.Lts as lts
 use Rattle.merge.proofs.merge.least.Reads as least-reads
 use Rattle.merge.proofs.merge.pass_all.Reads as pass-all-reads
+use Rattle.merge.proofs.source.no_value.Reads as no-value-reads
 
 abbrev Inv-loop : tie.InvT-loop
 Inv-loop img rest₀ rest = Settling img rest₀ rest
@@ -18,6 +19,9 @@ loop-holds c = search settling-none
 
 least-requires : tie.Need-least-requires Inv-loop μ-loop
 least-requires c κs = search needs
+
+no-value-requires : tie.Need-no-value-requires Inv-loop μ-loop
+no-value-requires c κs = search needs
 
 returns : tie.Need-returns Inv-loop μ-loop
 returns c = search settled-none
@@ -42,6 +46,7 @@ settle-spec =
     μ-loop
     loop-holds
     least-requires
+    no-value-requires
     returns
     pass-all-requires
     returns-2

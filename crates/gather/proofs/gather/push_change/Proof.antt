@@ -1,12 +1,12 @@
 use native.Mathlib.Omega.{arith}
 use lib.ListN.{length-set}
-use Rattle.rows.proofs.Gathers.{push-none, push-two}
-use Rattle.rows.proofs.Others.{other-lists}
+use Rattle.merge.proofs.Merging.{push-none, push-two}
+use Rattle.gather.proofs.Others.{other-lists}
 use borrow.Author.Needs.{needs}
-use Rattle.rows.proofs.listing.push_change.Statement.{statement}
-use Rattle.rows.proofs.listing.push_change.Tie as tie
-use Rattle.rows.proofs.listing.push_change.Reads as reads
-use Rattle.rows.proofs.listing.push_change.Lts as lts
+use Rattle.gather.proofs.gather.push_change.Statement.{statement}
+use Rattle.gather.proofs.gather.push_change.Tie as tie
+use Rattle.gather.proofs.gather.push_change.Reads as reads
+use Rattle.gather.proofs.gather.push_change.Lts as lts
 use Rattle.merge.proofs.merge.push_source.Reads as push-source-reads
 use Rattle.merge.proofs.source.source_at.Reads as source-at-reads
 

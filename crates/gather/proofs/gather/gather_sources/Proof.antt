@@ -1,23 +1,23 @@
 use mathlib.Core.Path.{sym, _∙_}
 use native.Mathlib.Omega.{arith}
 use borrow.Author.Needs.{needs}
-use Rattle.rows.proofs.Gathers.{Gathering, gathering-none, gathering-end, gathering-more, gathering-all}
-use Rattle.rows.proofs.listing.gather_sources.Statement.{statement}
-use Rattle.rows.proofs.listing.gather_sources.Tie as tie
-use Rattle.rows.proofs.listing.gather_sources.Reads as reads
-use Rattle.rows.proofs.listing.gather_sources.Lts as lts
-use Rattle.rows.proofs.listing.push_base.Reads as push-base-reads
-use Rattle.rows.proofs.listing.is_tombstone.Reads as is-tombstone-reads
-use Rattle.rows.proofs.listing.push_record.Reads as push-record-reads
+use Rattle.gather.proofs.Gathering.{Gathering, gathering-none, gathering-end, gathering-more, gathering-all}
+use Rattle.gather.proofs.gather.gather_sources.Statement.{statement}
+use Rattle.gather.proofs.gather.gather_sources.Tie as tie
+use Rattle.gather.proofs.gather.gather_sources.Reads as reads
+use Rattle.gather.proofs.gather.gather_sources.Lts as lts
+use Rattle.gather.proofs.gather.push_base.Reads as push-base-reads
+use Rattle.gather.proofs.gather.is_tombstone.Reads as is-tombstone-reads
+use Rattle.gather.proofs.gather.push_record.Reads as push-record-reads
 use Rattle.merge.proofs.merge.no_sources.Reads as no-sources-reads
 use Rattle.layers.proofs.stack.base_node.Reads as base-node-reads
 use Rattle.layers.proofs.stack.record_at.Reads as record-at-reads
 
 abbrev Inv-loop : tie.InvT-loop
-Inv-loop img stack listing all₀ i₀ all i = Gathering img stack listing all i
+Inv-loop img stack lists all₀ i₀ all i = Gathering img stack lists all i
 
 abbrev μ-loop : tie.MeasureT-loop
-μ-loop img stack listing all₀ i₀ all i = i
+μ-loop img stack lists all₀ i₀ all i = i
 
 no-sources-requires : tie.Need-no-sources-requires Inv-loop μ-loop
 no-sources-requires c κs = search needs

@@ -1,10 +1,10 @@
-use Rattle.rows.proofs.Gathers.{push-none}
+use Rattle.merge.proofs.Merging.{push-none}
 use borrow.Author.Needs.{needs}
-use Rattle.rows.proofs.listing.push_base.Statement.{statement}
-use Rattle.rows.proofs.listing.push_base.Tie as tie
-use Rattle.rows.proofs.listing.push_base.Reads as reads
-use Rattle.rows.proofs.listing.push_base.Lts as lts
-use Rattle.rows.proofs.listing.push_node.Reads as push-node-reads
+use Rattle.gather.proofs.gather.push_base.Statement.{statement}
+use Rattle.gather.proofs.gather.push_base.Tie as tie
+use Rattle.gather.proofs.gather.push_base.Reads as reads
+use Rattle.gather.proofs.gather.push_base.Lts as lts
+use Rattle.gather.proofs.gather.push_node.Reads as push-node-reads
 
 enum-known-base : tie.Need-enum-known-base
 enum-known-base c = search needs

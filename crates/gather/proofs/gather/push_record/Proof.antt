@@ -1,10 +1,10 @@
-use Rattle.rows.proofs.Gathers.{push-none}
+use Rattle.merge.proofs.Merging.{push-none}
 use borrow.Author.Needs.{needs}
-use Rattle.rows.proofs.listing.push_record.Statement.{statement}
-use Rattle.rows.proofs.listing.push_record.Tie as tie
-use Rattle.rows.proofs.listing.push_record.Reads as reads
-use Rattle.rows.proofs.listing.push_record.Lts as lts
-use Rattle.rows.proofs.listing.push_delta.Reads as push-delta-reads
+use Rattle.gather.proofs.gather.push_record.Statement.{statement}
+use Rattle.gather.proofs.gather.push_record.Tie as tie
+use Rattle.gather.proofs.gather.push_record.Reads as reads
+use Rattle.gather.proofs.gather.push_record.Lts as lts
+use Rattle.gather.proofs.gather.push_delta.Reads as push-delta-reads
 
 -- src/listing.rt:104:26
 enum-known-entry : tie.Need-enum-known-entry

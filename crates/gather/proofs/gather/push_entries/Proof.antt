@@ -1,11 +1,11 @@
-use Rattle.rows.proofs.Gathers.{push-none}
-use Rattle.rows.proofs.Others.{other-base-lists}
+use Rattle.merge.proofs.Merging.{push-none}
+use Rattle.gather.proofs.Others.{other-base-lists}
 use borrow.Author.Needs.{needs}
-use Rattle.rows.proofs.listing.push_entries.Statement.{statement}
-use Rattle.rows.proofs.listing.push_entries.Tie as tie
-use Rattle.rows.proofs.listing.push_entries.Reads as reads
-use Rattle.rows.proofs.listing.push_entries.Lts as lts
-use Rattle.rows.proofs.listing.push_list.Reads as push-list-reads
+use Rattle.gather.proofs.gather.push_entries.Statement.{statement}
+use Rattle.gather.proofs.gather.push_entries.Tie as tie
+use Rattle.gather.proofs.gather.push_entries.Reads as reads
+use Rattle.gather.proofs.gather.push_entries.Lts as lts
+use Rattle.merge.proofs.merge.push_list.Reads as push-list-reads
 
 enum-known-kind : tie.Need-enum-known-kind
 enum-known-kind c = search needs

@@ -6,11 +6,12 @@ use mathlib.Core.List.{List, [], _∷_, _++_, map, append-assoc, append-nil}
 use Prim.Native.Nat.{ℕ, zero, suc, _+_, _-_, _*_, _≤_, _<_}
 use native.Mathlib.Omega.{arith}
 use lib.ListN.{length, drop, getD, length-append, length-drop}
-use mathlib.Core.Bool.{true, false}
+use mathlib.Core.Bool.{Bool, true, false, cond}
 use Rattle.wire.specs.declared.cursor.Cursor.the-variants as C
 use Rattle.wire.specs.Parse.{got}
 use Rattle.wire.specs.Number.{numberBytes, number-one}
 use Rattle.image.specs.Meaning as M
+use Rattle.image.specs.Meaning.{changedKind}
 use Rattle.image.specs.declared.name.Under.{Under}
 use Rattle.image.specs.declared.name.Under.the-variants as U
 use Rattle.image.specs.declared.batch.InodeLayerStack.{InodeLayerStack}
@@ -18,7 +19,6 @@ use Rattle.image.specs.Held.{placeOf}
 use Rattle.image.specs.NodeLayout.{node}
 use Rattle.image.specs.RecordLayout.{fields, layerRecord}
 use Rattle.wire.specs.Orders.{byBytes}
-use Rattle.wire.specs.Maps.{Map}
 use Rattle.nodes.specs.declared.part.Part.{Part}
 use Rattle.nodes.specs.declared.delta.NodeDelta.{NodeDelta}
 use Rattle.nodes.specs.declared.delta.NodeDelta.the-variants as D
@@ -34,47 +34,24 @@ use Rattle.nodes.specs.Listed.{byName, listAt, listOf, Listed, ListedIf}
 use Rattle.nodes.specs.Attrs.{fieldsMeant}
 use Rattle.nodes.specs.Deltas.{attrOf, changeMeant, deltaMeant, ChangeListed, ReadsEntry}
 use Rattle.nodes.specs.Nodes.{metaMeant, bodyMeant, nodeMeant, EntriesListed, ReadsNode}
+use Rattle.rules.specs.Fold.{sameKind}
 use Rattle.rules.specs.Starts.{entriesAt, addedAt}
 use Rattle.rules.specs.PlacedStacks.{recordsOn, nodeAt}
 use Rattle.rules.proofs.ListPlaces.{added-at, entries-at}
-use Rattle.merge.specs.Pile.{rowsOf, decisions}
-use Rattle.merge.specs.Sources.{Decided, listRows, ListOf}
-use Rattle.merge.specs.Merges.{sourcesOf, Whole, NoSources, withSource, Ready, plainRow}
-use Rattle.rows.specs.Listings.{changeLists, alterLists, deltaLists, recordLists, isTombstone, entryLists, nodeLists, baseLists, Pushes, Gathers}
+use Rattle.merge.specs.Pile.{rowsOf}
+use Rattle.merge.specs.Sources.{Decided, listRows}
+use Rattle.merge.specs.Merges.{sourcesOf, Whole, NoSources, Pushes, Ready}
+use Rattle.gather.specs.Lists.{changeLists, alterLists, deltaLists, recordLists, isTombstone, entryLists, nodeLists, baseLists}
 use Rattle.layers.specs.Stacks.{Stacked, recordsUnder, recordsIn, nodeIn, RecordIs, NodeIs, BaseIs}
-use Rattle.merge.specs.declared.source.Source.{Source}
-use Rattle.rows.specs.declared.listing.Listing.{Listing}
-use Rattle.rows.specs.declared.listing.Listing.the-variants as L
+use Rattle.gather.specs.declared.gather.Lists.{Lists}
+use Rattle.gather.specs.declared.gather.Lists.the-variants as L
 use Rattle.layers.specs.declared.stack.OptionNode.{OptionNode}
 use Rattle.layers.specs.declared.stack.OptionNode.the-variants as O
 use Rattle.merge.specs.declared.merge.Sources.{Sources}
-use Rattle.merge.proofs.Lists.{sourceOf, list-are}
-use Rattle.rows.proofs.Decide.{removedAt, bodyPile, nodePile, changePile, alterPile, deltaPile, recordPile, pileOf, pileRows, pile-shows, pile-ascends}
-use Rattle.merge.proofs.Merging.{pushed-whole, pushed-sources}
+use Rattle.merge.proofs.Lists.{pileRows, rows-append, sourceOf, list-are, pile-ascends}
+use Rattle.gather.specs.Gathers.{bodyPile, nodePile, changePile, alterPile, deltaPile, recordPile, pileOf, Gathers}
+use Rattle.attrs.specs.Meant.{kindMeant}
 use Rattle.layers.proofs.Walks.{records-more}
-
--- ---- sources more
-
-module _ {img : List ℕ} {all : Sources} where
-  pub push-none : Whole img all → Pushes img all [] all
-  push-none w = record { are = sym (append-nil (sourcesOf img all)); more = omega arith; whole = w }
-
-  pub push-one : {u : Under} {p : ℕ} {s : Source} {r : Sources} → Whole img all → all .count < 35 → ListOf img u p s → r ≡ withSource all s → Pushes img all (listRows img u p ∷ []) r
-  push-one {u} {p} {s} {r} w h l e =
-      rw e (record { are = pushed-sources w h s ∙ rw (l .are); more = omega arith; whole = pushed-whole w h (l .inside) })
-
-  pub push-both : {over : Sources} {xs ys : List (List Decided)} {r : Sources} → Pushes img all xs over → Pushes img over ys r → Pushes img all (xs ++ ys) r
-  push-both {over} {xs} {ys} p q = record {
-    are = q .are ∙ rw (p .are) (append-assoc (sourcesOf img all) xs ys);
-    more = omega (arith, p .more, q .more, length-append xs ys);
-    whole = q .whole;
-  }
-
-pub push-two : {img : List ℕ} {all over : Sources} {u v : Under} {p q : ℕ} {s t : Source} {r : Sources} → Whole img all → all .count < 34 → ListOf img u p s → ListOf img v q t → over ≡ withSource all s → r ≡ withSource over t
-    → Pushes img all (listRows img u p ∷ (listRows img v q ∷ [])) r
-push-two w h l k e d =
-    let o = push-one w (omega arith) l e in
-    push-both o (push-one (o .whole) (omega (arith, o .more)) k d)
 
 -- ---- what the lists of a record and of a node mean
 
@@ -98,11 +75,6 @@ module _ (img : List ℕ) (u : Under) {p : Part} {end : ℕ} (l : Listed img u p
   -- as a source it is that of the map
   list-source : {q : ℕ} → p .start ≡ q → listRows img u (p .start) ≡ sourceOf u q (listAt img u p) .rows
   list-source e = rw (← e) (list-are img u (p .start) (listAt img u p) (drop end img) (l .is))
-
-rows-append : (xs ys : List (Map byBytes (Option (ℕ × ℕ)))) → pileRows (xs ++ ys) ≡ pileRows xs ++ pileRows ys
-unfolding rowsOf
-rows-append [] ys = refl
-rows-append (x ∷ xs) ys = rw (rows-append xs ys)
 
 module _ (img : List ℕ) (p : ℕ) where
   change-lists : (n : NodeDelta) (end : ℕ) → layerRecord .read (drop p img) ≡ got (M.delta (deltaMeant img n)) (drop end img) → ChangeListed img n end
@@ -130,9 +102,15 @@ module _ (img : List ℕ) (p : ℕ) where
   alter-lists (P.Some x) f l = rw (list-source img U.Change l (list-start img U.Change l))
   alter-lists P.None f l = refl
 
-  delta-lists : (l : Listing) (n : NodeDelta) → RecordIs img p (E.Node n) → deltaLists img l n ≡ pileRows (deltaPile l p (deltaMeant img n))
+  delta-lists : (l : Lists) (n : NodeDelta) → RecordIs img p (E.Node n) → deltaLists img l n ≡ pileRows (deltaPile l p (deltaMeant img n))
+  unfolding rowsOf
   delta-lists L.Entries n g = change-lists n (g .end) (g .reads .reads .same) (g .reads .lists)
   delta-lists L.Attributes n g = alter-lists (attrOf n .xattrs) (fieldsMeant img (attrOf n)) (g .reads .attributes p refl)
+  delta-lists (L.AttributesOf t) n g = go (sameKind (changedKind (changeMeant img n)) (kindMeant t))
+    where
+      go : (b : Bool) → cond b (alterLists img (attrOf n .xattrs)) [] ≡ pileRows (cond b (alterPile p (fieldsMeant img (attrOf n)) (listOf img U.Change (attrOf n .xattrs))) [])
+      go true = alter-lists (attrOf n .xattrs) (fieldsMeant img (attrOf n)) (g .reads .attributes p refl)
+      go false = refl
 
   entry-lists : (k : NodeKind) (m : M.Meta) (end : ℕ) → node .read (drop p img) ≡ got (record { meta = m; body = bodyMeant img k }) (drop end img) → EntriesListed img k end
       → entryLists img k ≡ pileRows (bodyPile p m (bodyMeant img k))
@@ -147,25 +125,31 @@ module _ (img : List ℕ) (p : ℕ) where
   entry-lists (K.BlockDevice rdev) m end r l = refl
   entry-lists K.Socket m end r l = refl
 
-  node-lists : (l : Listing) (n : Node) → NodeIs img p n → nodeLists img l n ≡ pileRows (nodePile l (some (record { place = p; held = nodeMeant img n })))
+  node-lists : (l : Lists) (n : Node) → NodeIs img p n → nodeLists img l n ≡ pileRows (nodePile l (some (record { place = p; held = nodeMeant img n })))
   unfolding rowsOf
   node-lists L.Entries n g = entry-lists (n .kind) (metaMeant img (n .meta)) (g .end) (g .reads .reads .same) (g .reads .entries)
   node-lists L.Attributes n g = let a = g .reads .attributes p refl in rw (list-source img U.Value a (list-start img U.Value a))
+  node-lists (L.AttributesOf t) n g = let a = g .reads .attributes p refl in rw (list-source img U.Value a (list-start img U.Value a))
 
-base-lists : (img : List ℕ) (l : Listing) (o : Option ℕ) (b : OptionNode) → BaseIs img o b → baseLists img l b ≡ pileRows (nodePile l (nodeAt img o))
+base-lists : (img : List ℕ) (l : Lists) (o : Option ℕ) (b : OptionNode) → BaseIs img o b → baseLists img l b ≡ pileRows (nodePile l (nodeAt img o))
 unfolding rowsOf
 base-lists img l none O.None g = go l
   where
-    go : (l : Listing) → [] ≡ pileRows (nodePile l none)
+    go : (l : Lists) → [] ≡ pileRows (nodePile l none)
     go L.Entries = refl
     go L.Attributes = refl
+    go (L.AttributesOf t) = refl
 base-lists img l none (O.Some n) g = absurd g
 base-lists img l (some p) O.None g = absurd g
 base-lists img l (some p) (O.Some n) g = rw (g .reads .reads .same) (node-lists img p l n g)
 
 -- ---- the walk from the top
 
-lists-few : (img : List ℕ) (l : Listing) (n : NodeDelta) → length (deltaLists img l n) ≤ 2
+alter-few : (img : List ℕ) (o : OptionPart) → length (alterLists img o) ≤ 2
+alter-few img (P.Some p) = omega arith
+alter-few img P.None = omega arith
+
+lists-few : (img : List ℕ) (l : Lists) (n : NodeDelta) → length (deltaLists img l n) ≤ 2
 lists-few img L.Entries (D.Directory d) = omega arith
 lists-few img L.Entries (D.File d) = omega arith
 lists-few img L.Entries (D.Symlink d) = omega arith
@@ -173,13 +157,14 @@ lists-few img L.Entries (D.Fifo d) = omega arith
 lists-few img L.Entries (D.CharDevice d) = omega arith
 lists-few img L.Entries (D.BlockDevice d) = omega arith
 lists-few img L.Entries (D.Socket d) = omega arith
-lists-few img L.Attributes n = go (attrOf n .xattrs)
+lists-few img L.Attributes n = alter-few img (attrOf n .xattrs)
+lists-few img (L.AttributesOf t) n = go (sameKind (changedKind (changeMeant img n)) (kindMeant t))
   where
-    go : (o : OptionPart) → length (alterLists img o) ≤ 2
-    go (P.Some p) = omega arith
-    go P.None = omega arith
+    go : (b : Bool) → length (cond b (alterLists img (attrOf n .xattrs)) []) ≤ 2
+    go true = alter-few img (attrOf n .xattrs)
+    go false = omega arith
 
-module _ (img : List ℕ) (s : InodeLayerStack) (l : Listing) where
+module _ (img : List ℕ) (s : InodeLayerStack) (l : Lists) where
   -- the sources of the lowest i records and of the node
   abbrev pileUnder : ℕ → List (List Decided)
   pileUnder i = pileRows (pileOf l (recordsUnder img s i) (nodeIn img s))
@@ -191,13 +176,10 @@ module _ (img : List ℕ) (s : InodeLayerStack) (l : Listing) where
     pub whole : Whole img all
     pub are : sourcesOf img all ++ pileUnder i ≡ pileUnder (s .count)
 
-gathered : {img : List ℕ} {s : InodeLayerStack} {l : Listing} {all : Sources} → Whole img all → sourcesOf img all ≡ pileUnder img s l (s .count) → Gathers img s l all
-gathered {img} {s} {l} {all} w e = record {
-  rows = ap (λ (ss : List (List Decided)). map plainRow (decisions byBytes ss)) e ∙ pile-shows l (recordsIn img s) (nodeIn img s);
-  ready = record { whole = w; ascend = rw e (pile-ascends (pileOf l (recordsIn img s) (nodeIn img s))) };
-}
+gathered : {img : List ℕ} {s : InodeLayerStack} {l : Lists} {all : Sources} → Whole img all → sourcesOf img all ≡ pileUnder img s l (s .count) → Gathers img s l all
+gathered w e = record { are = e; whole = w }
 
-module _ {img : List ℕ} {s : InodeLayerStack} {l : Listing} {all : Sources} where
+module _ {img : List ℕ} {s : InodeLayerStack} {l : Lists} {all : Sources} where
   pub gathering-none : NoSources all → Gathering img s l all (s .count)
   gathering-none n = record { low = omega arith; few = omega (arith, n .none-yet); whole = n .whole img; are = rw (n .none-yet) }
 
@@ -233,3 +215,8 @@ module _ {img : List ℕ} {s : InodeLayerStack} {l : Listing} {all : Sources} wh
       let z : i ≡ 0 = omega arith in
       let e : sourcesOf img all ++ pileUnder img s l 0 ≡ pileUnder img s l (s .count) = rw z at (g .are) in
       gathered (p .whole) (p .are ∙ rw (base-lists img l (placeOf (s .base)) o b) e)
+
+-- ---- what is gathered can be merged
+
+pub gathered-ready : {img : List ℕ} {s : InodeLayerStack} {l : Lists} {r : Sources} → Gathers img s l r → Ready img r
+gathered-ready {img} {s} {l} g = record { whole = g .whole; ascend = rw (g .are) (pile-ascends (pileOf l (recordsIn img s) (nodeIn img s))) }
