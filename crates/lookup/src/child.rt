@@ -105,7 +105,7 @@ fn entries_at(img: &[u8], stack: InodeLayerStack, layer: usize, name: &[u8]) -> 
 }
 
 // The entries of a base directory.
-fn base_entries(img: &[u8], stack: InodeLayerStack) -> OptionPart
+pub fn base_entries(img: &[u8], stack: InodeLayerStack) -> OptionPart
     requires { ⌜ Stacked (now img) stack ⌝ }
     ensures { λ r. ⌜ BaseEntries (now (img .entry)) stack r ⌝ }
 {

@@ -69,7 +69,7 @@ module _ (h : Held) where
 
 -- ---- maps as rows
 
-layers-snoc : (ls : List Layer) (l : Layer) (ss : List (List Row)) → layersOn (ls ++ (l ∷ [])) ss ≡ recordRows l ∷ layersOn ls ss
+pub layers-snoc : (ls : List Layer) (l : Layer) (ss : List (List Row)) → layersOn (ls ++ (l ∷ [])) ss ≡ recordRows l ∷ layersOn ls ss
 unfolding layersOn
 layers-snoc [] l ss = refl
 layers-snoc (x ∷ ls) l ss = layers-snoc ls l (recordRows x ∷ ss)
@@ -84,11 +84,11 @@ over-ascend b ls = layers-ascend ls (nodeRows b ∷ []) (map-rising byNumber ofN
 
 -- ---- where layers stand
 
-count-layers : (bs : List Batch) (live : Layer) → length (withLive bs live) ≡ length bs + 1
+pub count-layers : (bs : List Batch) (live : Layer) → length (withLive bs live) ≡ length bs + 1
 count-layers [] live = refl
 count-layers (b ∷ bs) live = omega (arith, count-layers bs live)
 
-layer-fits : (bs : List Batch) (live : Layer) (i : ℕ) → Every FitsBatch bs → records .Fits live → i < length (withLive bs live)
+pub layer-fits : (bs : List Batch) (live : Layer) (i : ℕ) → Every FitsBatch bs → records .Fits live → i < length (withLive bs live)
     → records .Fits (getD (withLive bs live) i (empty byNumber))
 unfolding layerRecord
 layer-fits [] live zero f g h = g
@@ -96,7 +96,7 @@ layer-fits [] live (suc i) f g h = absurd (omega arith)
 layer-fits (b ∷ bs) live zero f g h = f .0 .records
 layer-fits (b ∷ bs) live (suc i) f g h = layer-fits bs live i (f .1) g (omega arith)
 
-live-fits : (s : Store) → FitsStore s → records .Fits (s .live)
+pub live-fits : (s : Store) → FitsStore s → records .Fits (s .live)
 unfolding layerRecord
 live-fits s f = f .live
 
@@ -207,7 +207,7 @@ module _ {img : List ℕ} {n batches first end top : ℕ} {w : Walk} {i : ℕ} (
   pub opening-more : {out : Walk} → out ≡ withRun w run → Opening img n batches first to at out (i + 1)
   opening-more z = rw z (record { low = omega arith; wide = rw length-set (g .wide); count = omega (arith, g .count); opened = layer-opened })
 
-layers-start : (bs : List Batch) (live : Layer) → layerBytes bs live 0 ≡ queueBytes bs ++ records .write live
+pub layers-start : (bs : List Batch) (live : Layer) → layerBytes bs live 0 ≡ queueBytes bs ++ records .write live
 unfolding layerBytes queueBytes
 layers-start [] live = refl
 layers-start (b ∷ bs) live = refl

@@ -61,7 +61,7 @@ module _ (b : Base) (ls : List Layer) where
       rw (rows-on ls (mapValues byNumber ofNode b ∷ []), pile-merged byNumber laying (mapsOn ls (mapValues byNumber ofNode b ∷ []))) (stack-under i)
 
 -- each row is what a lookup of its key gives
-every-found : {K A : Type 0} (O : Order K) (P : K × A → Type 0) (l : List (K × A)) → Rising O l → ((k : K) (a : A) → lookup O k l ≡ some a → P (k, a)) → Every P l
+pub every-found : {K A : Type 0} (O : Order K) (P : K × A → Type 0) (l : List (K × A)) → Rising O l → ((k : K) (a : A) → lookup O k l ≡ some a → P (k, a)) → Every P l
 unfolding lookup
 every-found O P [] r f = tt
 every-found {K} {A} O P (e ∷ l) r f = (f (e .0) (e .1) (rw (O .self (e .0))), every-found O P l (r .1) (λ k a h. f k a (go k a h (O .cmp k (e .0)) refl)))
