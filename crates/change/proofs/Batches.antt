@@ -18,10 +18,10 @@ use Rattle.image.specs.FieldLayout.{inode, word, moment}
 use Rattle.image.specs.RecordLayout.{layerRecord, records}
 use Rattle.image.specs.StoreLayout.{batchAfter, idOf, batches}
 use Rattle.survey.specs.Gathering.{batchHead}
-use Rattle.image.specs.Held.{Finds}
+use Rattle.passes.specs.Held.{Finds}
 use Rattle.image.specs.Places.{Ends}
-use Rattle.image.specs.declared.inode.Held.the-variants as H
-use Rattle.image.specs.declared.inode.Place.{Place}
+use Rattle.passes.specs.declared.inode.Held.the-variants as H
+use Rattle.passes.specs.declared.inode.Place.{Place}
 use Rattle.image.proofs.Passing.{ends-got, ends-fault}
 use Rattle.change.specs.Batches.{HeadParts, passBatch}
 

@@ -20,9 +20,9 @@ use Rattle.wire.specs.Reading.{Reads, Answers, placeAt}
 use Rattle.wire.proofs.Readers.{number-most}
 use Rattle.image.specs.FieldLayout.{listed}
 use Rattle.image.specs.Places.{Ends, Holds}
-use Rattle.image.specs.Held.{placeOf}
-use Rattle.image.specs.declared.inode.Place.{Place}
-use Rattle.image.specs.declared.inode.Place.the-variants as P
+use Rattle.passes.specs.Held.{placeOf}
+use Rattle.passes.specs.declared.inode.Place.{Place}
+use Rattle.passes.specs.declared.inode.Place.the-variants as P
 use Rattle.change.specs.Sections.{Spans}
 use Rattle.change.specs.Cuts.{three, rowsBelow, rowHere, rowsAbove, rowsBytes, underFirst, countWith, countWithout, CutIs, Cuts, CutsList}
 use Rattle.change.specs.declared.cut.Cut.{Cut}

@@ -14,9 +14,9 @@ use Rattle.wire.specs.Maps.{Map}
 use Rattle.image.specs.FieldLayout.{inode, listed}
 use Rattle.image.specs.RecordLayout.{layerRecord}
 use Rattle.image.specs.Places.{Holds}
-use Rattle.image.specs.Held.{placeOf}
-use Rattle.image.specs.declared.inode.Place.{Place}
-use Rattle.image.specs.declared.inode.Place.the-variants as P
+use Rattle.passes.specs.Held.{placeOf}
+use Rattle.passes.specs.declared.inode.Place.{Place}
+use Rattle.passes.specs.declared.inode.Place.the-variants as P
 use Rattle.change.specs.Sections.{Spans}
 use Rattle.change.specs.declared.cut.Cut.{Cut}
 

@@ -2,8 +2,8 @@
 ghost use Rattle.wire.specs.Reading.{Reads};
 ghost use Rattle.writers.specs.Batches.{headMeant};
 ghost use Rattle.change.specs.Batches.{passBatch};
-use image::inode::Held;
-use image::inode::find_inode;
+use passes::inode::Held;
+use passes::inode::find_inode;
 use writers::batch::BatchHeadRead;
 use writers::batch::read_batch_head;
 use wire::cursor::Cursor;

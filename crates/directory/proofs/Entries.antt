@@ -22,7 +22,7 @@ use Rattle.image.specs.Meaning.{Text}
 use Rattle.image.specs.declared.name.Under.{Under as Sort}
 use Rattle.image.specs.FieldLayout.{name, listed}
 use Rattle.image.specs.Under.{UnderName, under}
-use Rattle.image.specs.declared.inode.Place.the-variants as P
+use Rattle.passes.specs.declared.inode.Place.the-variants as P
 use Rattle.nodes.specs.Listed.{byName, listAt}
 use Rattle.nodes.specs.declared.part.Part.{Part}
 use Rattle.nodes.specs.declared.option.OptionPart.the-variants as M

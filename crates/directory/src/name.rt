@@ -11,7 +11,7 @@ use overlay::delta::Own;
 use overlay::delta::Rows;
 use change::cut::Cut;
 use change::cut::count_with;
-use image::inode::Place;
+use passes::inode::Place;
 use image::name::Under;
 use image::name::pass_under;
 use nodes::option::OptionPart;

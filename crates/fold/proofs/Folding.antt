@@ -24,10 +24,10 @@ use Rattle.image.specs.FieldLayout.{attributes, entries}
 use Rattle.image.specs.KindLayout.{kind}
 use Rattle.image.specs.NodeLayout.{node}
 use Rattle.image.specs.Places.{Ends}
-use Rattle.image.specs.Held.{placeOf}
+use Rattle.passes.specs.Held.{placeOf}
 use Rattle.image.specs.declared.name.Under.the-variants as U
 use Rattle.survey.specs.declared.batch.InodeLayerStack.{InodeLayerStack}
-use Rattle.image.specs.declared.inode.Place.the-variants as P
+use Rattle.passes.specs.declared.inode.Place.the-variants as P
 use Rattle.rules.specs.Initial.{usual}
 use Rattle.rules.specs.Fold.{sameKind, applied, foldRecord}
 use Rattle.rules.specs.PlacedStacks.{recordsOn, nodeAt, unplaced, unplacedNode}
@@ -52,7 +52,7 @@ use Rattle.stack.specs.Stacks.{Stacked, recordsUnder, recordsIn, nodeIn, Record
 use Rattle.stack.specs.declared.stack.OptionNode.{OptionNode}
 use Rattle.stack.specs.declared.stack.OptionNode.the-variants as O
 use Rattle.stack.proofs.Walks.{records-more}
-use Rattle.fold.specs.Folded.{bodyWith, nodeWith, onAttributes, onEntries, FirstNode, AppliesNode}
+use Rattle.apply.specs.Folded.{bodyWith, nodeWith, onAttributes, onEntries, FirstNode, AppliesNode}
 use Rattle.fold.specs.Lists.{attributesOf, entriesOf}
 use Rattle.fold.specs.FoldedNodes.{Shows, ShowsIf, FoldsDelta, FoldsRecord, foldedIn, FoldsTo, bodyWritten, bytesIf, Merged, CopiesNode}
 use Rattle.fold.proofs.Folds.{attributes-fold, entries-fold, entriesIn}

@@ -24,7 +24,7 @@ use Rattle.merge.proofs.Lists.{Deciding, sourceOf}
 use Rattle.gather.specs.Gathers.{removedAt, bodyPile, nodePile, changePile, alterPile, deltaPile, recordPile, pileOf}
 use Rattle.gather.specs.declared.gather.Lists.{Lists}
 use Rattle.gather.specs.declared.gather.Lists.the-variants as L
-use Rattle.fold.specs.Folded.{onEntries}
+use Rattle.apply.specs.Folded.{onEntries}
 use Rattle.fold.specs.Lists.{valued, inoded, merges}
 use Rattle.fold.proofs.Forgetting.{changes-forget, values-forget, added-forget, removed-forget, entries-forget}
 

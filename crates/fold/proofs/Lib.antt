@@ -1,5 +1,4 @@
 -- Laws that the proofs of more than one function use, and that the crates above cite.
-pub mod Applying
 pub mod Forgetting
 pub mod Spelling
 pub mod Merged

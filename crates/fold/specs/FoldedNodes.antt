@@ -28,7 +28,7 @@ use Rattle.attrs.specs.declared.node.FileType.{FileType}
 use Rattle.stack.specs.Stacks.{Stacked, recordsIn, nodeIn}
 use Rattle.stack.specs.declared.stack.OptionNode.{OptionNode}
 use Rattle.stack.specs.declared.stack.OptionNode.the-variants as O
-use Rattle.fold.specs.Folded.{bodyWith, nodeWith}
+use Rattle.apply.specs.Folded.{bodyWith, nodeWith}
 use Rattle.fold.specs.Lists.{attributesOf, entriesOf}
 
 -- ---- by value: a node but for its lists

@@ -1,4 +1,3 @@
 -- What fold makes of nodes, and of their lists.
-pub mod Folded
 pub mod Lists
 pub mod FoldedNodes

@@ -14,7 +14,7 @@ use Rattle.image.specs.Meaning.{changedKind}
 use Rattle.image.specs.declared.name.Under.{Under}
 use Rattle.image.specs.declared.name.Under.the-variants as U
 use Rattle.survey.specs.declared.batch.InodeLayerStack.{InodeLayerStack}
-use Rattle.image.specs.Held.{placeOf}
+use Rattle.passes.specs.Held.{placeOf}
 use Rattle.image.specs.NodeLayout.{node}
 use Rattle.image.specs.RecordLayout.{fields, layerRecord}
 use Rattle.nodes.specs.declared.part.Part.{Part}

@@ -9,6 +9,5 @@ pub mod KindLayout
 pub mod Letters
 pub mod NodeLayout
 pub mod RecordLayout
-pub mod Held
 pub mod StoreLayout
 pub mod RoundTrip

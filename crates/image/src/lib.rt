@@ -1,7 +1,4 @@
 // The layout of the image: readers that judge and pass over each construct, and what is gathered on the way.
 pub mod field;
-pub mod inode;
 pub mod kind;
 pub mod name;
-pub mod node;
-pub mod record;

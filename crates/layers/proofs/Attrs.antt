@@ -7,7 +7,7 @@ use Prim.Native.Nat.{ℕ, _+_, _<_, _≤_}
 use native.Mathlib.Omega.{arith}
 use lib.ListN.{getD}
 use Rattle.survey.specs.declared.batch.InodeLayerStack.{InodeLayerStack}
-use Rattle.image.specs.Held.{placeOf}
+use Rattle.passes.specs.Held.{placeOf}
 use Rattle.rules.specs.Initial.{usual}
 use Rattle.rules.specs.FileAttrs.{FileAttr, attributes, baseAttr, stepAttr}
 use Rattle.nodes.specs.declared.node.NodeKind.{NodeKind}

@@ -13,11 +13,11 @@ use Rattle.wire.specs.Orders.{byBytes}
 use Rattle.wire.specs.Maps.{get}
 use Rattle.wire.specs.Reading.{Reads, AnswersPart, part}
 use Rattle.survey.specs.declared.batch.InodeLayerStack.{InodeLayerStack}
-use Rattle.image.specs.declared.inode.Place.{Place}
-use Rattle.image.specs.declared.inode.Place.the-variants as A
+use Rattle.passes.specs.declared.inode.Place.{Place}
+use Rattle.passes.specs.declared.inode.Place.the-variants as A
 use Rattle.image.specs.declared.name.Under.the-variants as U
 use Rattle.image.specs.Meaning.{Text}
-use Rattle.image.specs.Held.{placeOf}
+use Rattle.passes.specs.Held.{placeOf}
 use Rattle.image.specs.Places.{maybe-read}
 use Rattle.image.specs.Under.{under}
 use Rattle.rules.specs.Reads.{attribute, stepAttribute}

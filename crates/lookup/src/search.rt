@@ -1,7 +1,7 @@
 // Looking for a name in a list by name, where the list stands.
-ghost use Rattle.image.specs.Held.{placeOf};
+ghost use Rattle.passes.specs.Held.{placeOf};
 ghost use Rattle.lookup.specs.Search.{IsList, ListRows, RowAt, ReadsRow, Finds};
-use image::inode::Place;
+use passes::inode::Place;
 use image::name::Under;
 use image::name::pass_under;
 use nodes::part::Part;

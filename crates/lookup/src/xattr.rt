@@ -15,7 +15,7 @@ use stack::stack::OptionNode;
 use stack::stack::base_node;
 use stack::stack::record_at;
 use survey::batch::InodeLayerStack;
-use image::inode::Place;
+use passes::inode::Place;
 use image::name::Under;
 use deltas::delta::EntryDelta;
 use deltas::delta::attr_delta;

@@ -16,7 +16,7 @@ use attrs::node::FileType;
 use change::copy::put_between;
 use survey::batch::InodeLayerStack;
 use image::name::Under;
-use image::record::pass_record;
+use passes::record::pass_record;
 use stack::file_type::OptionType;
 use stack::file_type::type_in;
 use stack::stack::record_at;

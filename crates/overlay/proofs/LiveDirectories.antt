@@ -11,7 +11,7 @@ use Rattle.wire.specs.Parse.{got, never-got}
 use Rattle.image.specs.Meaning.{Record, tombstone}
 use Rattle.image.specs.RecordLayout.{layerRecord}
 use Rattle.image.specs.Places.{Holds}
-use Rattle.image.specs.declared.inode.Place.the-variants as P
+use Rattle.passes.specs.declared.inode.Place.the-variants as P
 use Rattle.deltas.specs.Deltas.{entryMeant, AttrListed, EntryListed, ReadsEntry}
 use Rattle.deltas.specs.declared.delta.NodeDelta.the-variants.{Directory, File, Symlink, Fifo, CharDevice, BlockDevice, Socket}
 use Rattle.deltas.specs.declared.delta.EntryDelta.{EntryDelta}

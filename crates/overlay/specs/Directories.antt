@@ -12,9 +12,9 @@ use Rattle.image.specs.declared.name.Under.the-variants as U
 use Rattle.image.specs.Under.{UnderName}
 use Rattle.image.specs.RecordLayout.{layerRecord}
 use Rattle.image.specs.Places.{Holds}
-use Rattle.image.specs.Held.{placeOf}
+use Rattle.passes.specs.Held.{placeOf}
 use Rattle.image.specs.RoundTrip.{writeImage}
-use Rattle.image.specs.declared.inode.Place.{Place}
+use Rattle.passes.specs.declared.inode.Place.{Place}
 use Rattle.nodes.specs.Options.{numberOf}
 use Rattle.nodes.specs.Listed.{listAt, ListedIf}
 use Rattle.nodes.specs.Attrs.{fieldsMeant}

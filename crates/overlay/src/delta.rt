@@ -5,7 +5,7 @@ ghost use Rattle.overlay.specs.Directories.{directoryOf, nodeDirectory, 
 ghost use Rattle.overlay.specs.NewImages.{ownBytes, rowsAnew, listAnew, directoryAnew};
 use crate::write::Lived;
 use change::copy::put_between;
-use image::inode::Place;
+use passes::inode::Place;
 use nodes::attr::AttrDelta;
 use deltas::delta::DirectoryDelta;
 use deltas::delta::EntryDelta;

@@ -18,13 +18,13 @@ use Rattle.image.specs.NodeLayout.{node, base}
 use Rattle.image.specs.RecordLayout.{layerRecord, records}
 use Rattle.image.specs.StoreLayout.{batches, store}
 use Rattle.image.specs.Places.{passed, Ends, Holds}
-use Rattle.image.specs.Held.{placeOf}
+use Rattle.passes.specs.Held.{placeOf}
 use Rattle.survey.specs.Gathering.{deltasOf}
 use Rattle.survey.specs.Survey.{Surveys}
 use Rattle.image.specs.RoundTrip.{readImage}
 use Rattle.survey.specs.declared.store.Survey.{Survey}
-use Rattle.image.specs.declared.inode.Place.{Place}
-use Rattle.image.specs.declared.inode.Place.the-variants as P
+use Rattle.passes.specs.declared.inode.Place.{Place}
+use Rattle.passes.specs.declared.inode.Place.the-variants as P
 use Rattle.image.proofs.Holding.{suffix-drop, suffix-rest}
 use Rattle.survey.proofs.Surveyed.{AllHold, ifThere, batchRecords, recordsOf, survey-holds}
 use Rattle.rules.specs.Stacks.{over?, stackOn, stack, withLive, layers}

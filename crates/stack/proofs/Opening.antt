@@ -12,7 +12,7 @@ use Rattle.image.specs.Meaning.{Node, Record, Store}
 use Rattle.image.specs.NodeLayout.{node}
 use Rattle.image.specs.RecordLayout.{layerRecord}
 use Rattle.image.specs.Places.{Holds}
-use Rattle.image.specs.Held.{placeOf}
+use Rattle.passes.specs.Held.{placeOf}
 use Rattle.survey.specs.Gathering.{deltasOf}
 use Rattle.image.specs.RoundTrip.{readImage}
 use Rattle.survey.specs.Verdict.{Judges, refusalNumber, verdictOf}

@@ -14,9 +14,9 @@ use Rattle.wire.specs.Parse.{got, never-got}
 use Rattle.image.specs.Meaning.{Record}
 use Rattle.image.specs.RecordLayout.{layerRecord}
 use Rattle.survey.specs.declared.batch.InodeLayerStack.{InodeLayerStack}
-use Rattle.image.specs.declared.inode.Place.the-variants as P
+use Rattle.passes.specs.declared.inode.Place.the-variants as P
 use Rattle.survey.specs.Gathering.{deltasOf}
-use Rattle.image.specs.Held.{placeOf}
+use Rattle.passes.specs.Held.{placeOf}
 use Rattle.rules.specs.Reads.{Read, look}
 use Rattle.rules.specs.PlacedStacks.{recordsOn, nodeAt, unplacedNode}
 use Rattle.rules.proofs.PlacedStack.{records-snoc}

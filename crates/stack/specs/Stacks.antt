@@ -10,7 +10,7 @@ use Rattle.survey.specs.declared.batch.InodeLayerStack.{InodeLayerStack}
 use Rattle.image.specs.Meaning.{Kind, Node, Record}
 use Rattle.image.specs.NodeLayout.{node}
 use Rattle.image.specs.RecordLayout.{layerRecord}
-use Rattle.image.specs.Held.{placeOf}
+use Rattle.passes.specs.Held.{placeOf}
 use Rattle.survey.specs.Gathering.{deltasOf}
 use Rattle.survey.specs.Verdict.{refusalNumber, verdictOf}
 use Rattle.rules.specs.Starts.{Placed}

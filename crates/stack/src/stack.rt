@@ -1,10 +1,10 @@
 // The stack of one inode in an image that may be used.
 ghost use Prim.Native.Nat.{_<_};
 ghost use lib.ListN.{getD};
-ghost use Rattle.image.specs.Held.{placeOf};
+ghost use Rattle.passes.specs.Held.{placeOf};
 ghost use Rattle.stack.specs.Stacks.{Opens, Stacked, RecordIs, BaseIs};
 use survey::batch::InodeLayerStack;
-use image::inode::Place;
+use passes::inode::Place;
 use survey::store::read_image;
 use survey::store::refusal_number;
 use deltas::delta::EntryDelta;

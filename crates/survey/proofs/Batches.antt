@@ -20,14 +20,14 @@ use Rattle.image.specs.FieldLayout.{inode}
 use Rattle.image.specs.RecordLayout.{records}
 use Rattle.image.specs.StoreLayout.{BatchRest, batchRest}
 use Rattle.image.specs.Places.{Ends, inodeBefore, rowsFrom, lastOf}
-use Rattle.image.specs.Held.{placeOf, Finds}
+use Rattle.passes.specs.Held.{placeOf, Finds}
 use Rattle.survey.specs.Gathering.{listIf, deltasOf, headRest, batchHead, recordPlace, batchPlaces, queueRows, queuePlaces, Pushed, Gathers, GathersQueue}
-use Rattle.image.specs.declared.inode.Held.the-variants as H
-use Rattle.image.specs.declared.inode.Place.{Place}
+use Rattle.passes.specs.declared.inode.Held.the-variants as H
+use Rattle.passes.specs.declared.inode.Place.{Place}
 use Rattle.survey.specs.declared.batch.InodeLayerStack.{InodeLayerStack}
 use Rattle.survey.specs.declared.batch.BatchesRead.{BatchesRead}
 use Rattle.image.proofs.Passing.{ends-of, ends-stop, ends-chosen, ends-got, ends-then, Passed, passed-start, passed-on, passed-stop, passed-last, passed-all}
-use Rattle.image.proofs.Inodes.{key-read}
+use Rattle.passes.proofs.Inodes.{key-read}
 
 -- what was passed started at a place
 pub ends-from : {A : Type 0} {img : List ℕ} {p : List ℕ → Parsed A} (at : Cursor) {q : ℕ} → Ends img p at (At q) → (m : ℕ) × (at ≡ At m)

@@ -30,13 +30,13 @@ use Rattle.image.specs.RecordLayout.{layerRecord, records}
 use Rattle.image.specs.StoreLayout.{BatchRest, batchRest, batchOf, batchAfter, idOf, batches, idsBelow, nextId, storeOf, store}
 use Rattle.image.specs.Places.{passed, Ends, rowsFrom, lastKey, lastOf, inodeBefore, placeIn}
 use Rattle.survey.specs.Gathering.{listIf, queueRows, Pushed, GathersQueue}
-use Rattle.image.specs.Held.{placeOf, foundAt, Finds}
+use Rattle.passes.specs.Held.{placeOf, foundAt, Finds}
 use Rattle.survey.specs.Survey.{tailAfter, Surveys}
 use Rattle.survey.specs.Verdict.{verdictOf}
 use Rattle.survey.specs.declared.store.Survey.{Survey}
 use Rattle.survey.specs.declared.store.Verdict.the-variants.{Fine, TooLong, Broken}
-use Rattle.image.specs.declared.inode.Held.the-variants as H
-use Rattle.image.specs.declared.inode.Place.{Place}
+use Rattle.passes.specs.declared.inode.Held.the-variants as H
+use Rattle.passes.specs.declared.inode.Place.{Place}
 use Rattle.survey.specs.declared.batch.InodeLayerStack.{InodeLayerStack}
 use Rattle.survey.specs.declared.batch.BatchesRead.{BatchesRead}
 use Rattle.image.proofs.Passing.{passed-made, ends-got, ends-fault, ends-made, ends-then}

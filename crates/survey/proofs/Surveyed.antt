@@ -22,7 +22,7 @@ use Rattle.image.specs.NodeLayout.{node, base}
 use Rattle.image.specs.RecordLayout.{layerRecord, records}
 use Rattle.image.specs.StoreLayout.{BatchRest, batchRest, batchOf, batches, nextId, storeOf, store}
 use Rattle.image.specs.Places.{Ends, Holds, rowsFrom, placeIn}
-use Rattle.image.specs.Held.{placeOf}
+use Rattle.passes.specs.Held.{placeOf}
 use Rattle.survey.specs.Gathering.{listIf, deltasOf, batchHead, recordPlace, orNone, asOption, batchPlaces, queueRows, queuePlaces}
 use Rattle.survey.specs.Survey.{Surveys}
 use Rattle.image.specs.RoundTrip.{readImage}

@@ -17,7 +17,7 @@ use Rattle.image.specs.FieldLayout.{inode, word, moment}
 use Rattle.image.specs.RecordLayout.{layerRecord, records}
 use Rattle.image.specs.StoreLayout.{BatchRest, batchRest}
 use Rattle.image.specs.Places.{Ends, ifRead, placeUnder, rowsFrom, lastOf, inodeBefore}
-use Rattle.image.specs.declared.inode.Place.{Place}
+use Rattle.passes.specs.declared.inode.Place.{Place}
 use Rattle.survey.specs.declared.batch.InodeLayerStack.{InodeLayerStack}
 use Rattle.survey.specs.declared.batch.BatchesRead.{BatchesRead}
 

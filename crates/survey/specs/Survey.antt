@@ -15,7 +15,7 @@ use Rattle.image.specs.NodeLayout.{node, base}
 use Rattle.image.specs.RecordLayout.{layerRecord, records}
 use Rattle.image.specs.StoreLayout.{batches, store}
 use Rattle.image.specs.Places.{Ends, placeIn}
-use Rattle.image.specs.Held.{placeOf}
+use Rattle.passes.specs.Held.{placeOf}
 use Rattle.survey.specs.Gathering.{listIf, deltasOf, queuePlaces}
 use Rattle.survey.specs.declared.store.Survey.{Survey}
 

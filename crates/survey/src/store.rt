@@ -7,10 +7,10 @@ use crate::batch::InodeLayerStack;
 use crate::batch::gather_queue;
 use crate::batch::pushed;
 use image::field::pass_number;
-use image::inode::Held;
-use image::inode::Place;
-use image::inode::find_inode;
-use image::inode::inode_after;
+use passes::inode::Held;
+use passes::inode::Place;
+use passes::inode::find_inode;
+use passes::inode::inode_after;
 use wire::cursor::Cursor;
 
 // Where the sections of an image stand, and the records of one inode. The base is at 0.

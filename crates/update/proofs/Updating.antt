@@ -17,7 +17,7 @@ use Rattle.wire.specs.Codec.{decode}
 use Rattle.wire.specs.Combinators.{opt-write}
 use Rattle.wire.specs.Number.{numberBytes, groups}
 use Rattle.image.specs.declared.name.Under.the-variants as U
-use Rattle.image.specs.declared.inode.Place.the-variants as A
+use Rattle.passes.specs.declared.inode.Place.the-variants as A
 use Rattle.survey.specs.declared.batch.InodeLayerStack.{InodeLayerStack}
 use Rattle.image.specs.Meaning.{Kind, Change, Record, Layer, Batch, Store, directory, file, symlink, special, pipe, character, block, socket, tombstone, delta, kindNumber, changedKind}
 use Rattle.image.specs.Fits.{FitsRecord}

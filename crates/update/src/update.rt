@@ -21,7 +21,7 @@ use change::cut::cut_records;
 use change::section::Sections;
 use change::section::open_inode;
 use survey::batch::InodeLayerStack;
-use image::inode::Place;
+use passes::inode::Place;
 use stack::file_type::OptionType;
 use stack::file_type::type_in;
 use nodes::attr::AttrDelta;

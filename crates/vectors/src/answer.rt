@@ -7,7 +7,7 @@ use crate::line::word;
 use crate::reads;
 use crate::show;
 use survey::batch::InodeLayerStack;
-use image::inode::Place;
+use passes::inode::Place;
 use survey::store::Verdict;
 use survey::store::read_image;
 use wire::cursor::Cursor;

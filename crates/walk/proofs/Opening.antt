@@ -28,10 +28,10 @@ use Rattle.image.specs.NodeLayout.{node, base}
 use Rattle.image.specs.RecordLayout.{layerRecord, records}
 use Rattle.image.specs.StoreLayout.{batches}
 use Rattle.survey.specs.Gathering.{batchHead}
-use Rattle.image.specs.Held.{HeldUnder, held}
+use Rattle.passes.specs.Held.{HeldUnder, held}
 use Rattle.image.specs.RoundTrip.{read-fits}
-use Rattle.image.specs.declared.inode.Held.{Held}
-use Rattle.image.specs.declared.inode.Held.the-variants as H
+use Rattle.passes.specs.declared.inode.Held.{Held}
+use Rattle.passes.specs.declared.inode.Held.the-variants as H
 use Rattle.rules.specs.Stacks.{batchLayers, withLive, layers}
 use Rattle.rules.proofs.MapValues.{mapRow, map-rising}
 use Rattle.merge.specs.Pile.{Ascend}

@@ -22,10 +22,10 @@ use Rattle.wire.specs.Rows.{choose}
 use Rattle.wire.specs.Lists.{lastCount}
 use Rattle.wire.specs.Reading.{Answers, placeAt}
 use Rattle.image.specs.FieldLayout.{inode}
-use Rattle.image.specs.Held.{HeldUnder, held}
+use Rattle.passes.specs.Held.{HeldUnder, held}
 use Rattle.image.specs.Places.{Ends}
-use Rattle.image.specs.declared.inode.Held.{Held}
-use Rattle.image.specs.declared.inode.Place.the-variants as P
+use Rattle.passes.specs.declared.inode.Held.{Held}
+use Rattle.passes.specs.declared.inode.Place.the-variants as P
 use Rattle.image.proofs.Passing.{ends-got, ends-fault}
 use Rattle.merge.specs.Pile.{headIf, pass}
 use Rattle.walk.specs.Runs.{piece, Row, rowsIf, rowsRead, rowsLeft, runRows, Ended, Sound, RowsOf, ListOf, Has, Found, Passed}

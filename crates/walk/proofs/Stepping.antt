@@ -17,11 +17,11 @@ use Rattle.wire.specs.Maps.{meet}
 use Rattle.image.specs.Meaning.{Node, Record}
 use Rattle.image.specs.RecordLayout.{layerRecord}
 use Rattle.image.specs.NodeLayout.{node}
-use Rattle.image.specs.Held.{placeOf}
+use Rattle.passes.specs.Held.{placeOf}
 use Rattle.survey.specs.Gathering.{listIf, deltasOf, Pushed}
-use Rattle.image.specs.declared.inode.Held.{Held}
-use Rattle.image.specs.declared.inode.Held.the-variants as H
-use Rattle.image.specs.declared.inode.Place.{Place}
+use Rattle.passes.specs.declared.inode.Held.{Held}
+use Rattle.passes.specs.declared.inode.Held.the-variants as H
+use Rattle.passes.specs.declared.inode.Place.{Place}
 use Rattle.survey.specs.declared.batch.InodeLayerStack.{InodeLayerStack}
 use Rattle.rules.specs.Reads.{isThere}
 use Rattle.rules.specs.Starts.{Placed}

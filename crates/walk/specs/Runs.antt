@@ -12,11 +12,11 @@ use Rattle.wire.specs.Orders.{byNumber}
 use Rattle.wire.specs.Lists.{lastCount}
 use Rattle.image.specs.Meaning.{Node, Record}
 use Rattle.image.specs.FieldLayout.{inode}
-use Rattle.image.specs.Held.{HeldUnder, held, placeOf}
+use Rattle.passes.specs.Held.{HeldUnder, held, placeOf}
 use Rattle.image.specs.Places.{ifRead}
-use Rattle.image.specs.declared.inode.Held.{Held}
-use Rattle.image.specs.declared.inode.Held.the-variants as H
-use Rattle.image.specs.declared.inode.Place.{Place}
+use Rattle.passes.specs.declared.inode.Held.{Held}
+use Rattle.passes.specs.declared.inode.Held.the-variants as H
+use Rattle.passes.specs.declared.inode.Place.{Place}
 use Rattle.merge.specs.Pile.{headIf, pass}
 use Rattle.walk.specs.declared.run.Run.{Run}
 

@@ -9,7 +9,7 @@ use lib.ListN.{length, take, set}
 use Rattle.wire.specs.Orders.{byNumber}
 use Rattle.wire.specs.Lists.{Every}
 use Rattle.image.specs.Meaning.{Node, Record}
-use Rattle.image.specs.declared.inode.Held.the-variants as H
+use Rattle.passes.specs.declared.inode.Held.the-variants as H
 use Rattle.survey.specs.declared.batch.InodeLayerStack.{InodeLayerStack}
 use Rattle.rules.specs.Reads.{isThere}
 use Rattle.rules.specs.PlacedStacks.{unplaced, unplacedNode}

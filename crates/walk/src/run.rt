@@ -1,12 +1,12 @@
 // Runs: lists by inode in the image, each at a row of it.
 ghost use mathlib.Core.Path.{_≡_};
-ghost use Rattle.image.specs.Held.{held};
+ghost use Rattle.passes.specs.Held.{held};
 ghost use Rattle.image.specs.Places.{Ends};
 ghost use Rattle.walk.specs.Runs.{Ended, Sound, RowsOf, ListOf, Has, Found, Passed};
-use image::inode::Held;
-use image::inode::Place;
-use image::node::pass_node;
-use image::record::pass_record;
+use passes::inode::Held;
+use passes::inode::Place;
+use passes::node::pass_node;
+use passes::record::pass_record;
 use wire::cursor::Cursor;
 use wire::cursor::place_at;
 use wire::number::read_number;

@@ -2,7 +2,7 @@
 ghost use Prim.Native.Nat.{_<_};
 ghost use lib.ListN.{length};
 ghost use mathlib.Core.Path.{_≡_};
-ghost use Rattle.image.specs.declared.inode.Held.the-variants as H;
+ghost use Rattle.passes.specs.declared.inode.Held.the-variants as H;
 ghost use Rattle.walk.specs.Runs.{Sound};
 ghost use Rattle.walk.specs.Walks.{Whole, Ready, Lower, Least, Taken, Steps, OverBase, withRun};
 use crate::run::Run;
@@ -13,7 +13,7 @@ use crate::run::place_under;
 use crate::run::run_at;
 use survey::batch::InodeLayerStack;
 use survey::batch::pushed;
-use image::inode::Held;
+use passes::inode::Held;
 
 // The base, and `count` layers over it, the lowest first.
 pub struct Walk {

@@ -5,7 +5,7 @@ use Rattle.fold.proofs.folded.fold_delta.Tie as tie
 use Rattle.fold.proofs.folded.fold_delta.Reads as reads
 use Rattle.fold.proofs.folded.fold_delta.Lts as lts
 use Rattle.attrs.proofs.node.kind_type.Reads as kind-type-reads
-use Rattle.fold.proofs.node.apply_to_node.Reads as apply-to-node-reads
+use Rattle.apply.proofs.node.apply_to_node.Reads as apply-to-node-reads
 use Rattle.gather.proofs.gather.of_type.Reads as of-type-reads
 
 -- src/folded.rt:35:23

@@ -5,7 +5,7 @@ use Rattle.fold.proofs.folded.put_base.Statement.{statement}
 use Rattle.fold.proofs.folded.put_base.Tie as tie
 use Rattle.fold.proofs.folded.put_base.Reads as reads
 use Rattle.fold.proofs.folded.put_base.Lts as lts
-use Rattle.image.proofs.node.pass_node.Reads as pass-node-reads
+use Rattle.passes.proofs.node.pass_node.Reads as pass-node-reads
 use Rattle.wire.proofs.cursor.place_at.Reads as place-at-reads
 use Rattle.wire.proofs.put.put_part.Reads as put-part-reads
 

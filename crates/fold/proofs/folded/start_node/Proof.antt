@@ -4,8 +4,8 @@ use Rattle.fold.proofs.folded.start_node.Statement.{statement}
 use Rattle.fold.proofs.folded.start_node.Tie as tie
 use Rattle.fold.proofs.folded.start_node.Reads as reads
 use Rattle.fold.proofs.folded.start_node.Lts as lts
-use Rattle.fold.proofs.node.apply_to_node.Reads as apply-to-node-reads
-use Rattle.fold.proofs.node.initial_node.Reads as initial-node-reads
+use Rattle.apply.proofs.node.apply_to_node.Reads as apply-to-node-reads
+use Rattle.apply.proofs.node.initial_node.Reads as initial-node-reads
 
 -- src/folded.rt:45:9
 initial-node-requires : tie.Need-initial-node-requires

@@ -5,7 +5,7 @@ use Rattle.normalize.proofs.record.put_record.Tie as tie
 use Rattle.normalize.proofs.record.put_record.Reads as reads
 use Rattle.normalize.proofs.record.put_record.Lts as lts
 use Rattle.change.proofs.copy.put_between.Reads as put-between-reads
-use Rattle.image.proofs.record.pass_record.Reads as pass-record-reads
+use Rattle.passes.proofs.record.pass_record.Reads as pass-record-reads
 use Rattle.wire.proofs.cursor.place_at.Reads as place-at-reads
 
 -- src/record.rt:77:9

@@ -3,8 +3,8 @@ use Rattle.walk.proofs.run.pass_under_inode.Statement.{statement}
 use Rattle.walk.proofs.run.pass_under_inode.Tie as tie
 use Rattle.walk.proofs.run.pass_under_inode.Reads as reads
 use Rattle.walk.proofs.run.pass_under_inode.Lts as lts
-use Rattle.image.proofs.node.pass_node.Reads as pass-node-reads
-use Rattle.image.proofs.record.pass_record.Reads as pass-record-reads
+use Rattle.passes.proofs.node.pass_node.Reads as pass-node-reads
+use Rattle.passes.proofs.record.pass_record.Reads as pass-record-reads
 
 -- src/run.rt:40:23
 enum-told : tie.Need-enum-told

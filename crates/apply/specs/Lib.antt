@@ -1,0 +1,2 @@
+-- A node with a delta applied to it.
+pub mod Folded

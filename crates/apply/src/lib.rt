@@ -1,0 +1,2 @@
+// What a delta makes of a node by value.
+pub mod node;

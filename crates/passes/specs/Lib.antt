@@ -1,0 +1,2 @@
+-- What is found in a list by inode.
+pub mod Held
