@@ -41,6 +41,12 @@ enum Call {
 // The answer of a line that asks for a change; of another line nothing.
 pub fn answer(line: &[u8]) {
     let call = word(line, 0);
+    change_live(line, call);
+    change_layers(line, call);
+}
+
+// Changes of one inode's live record.
+fn change_live(line: &[u8], call: &[u8]) {
     if same(call, b"insert") {
         replay(line, Call::Insert, 3);
     }
@@ -59,6 +65,10 @@ pub fn answer(line: &[u8]) {
     if same(call, b"update") {
         replay(line, Call::Update, 3);
     }
+}
+
+// Changes of whole layers, and of the queue.
+fn change_layers(line: &[u8], call: &[u8]) {
     if same(call, b"normalise") {
         replay(line, Call::Normalise, 2);
     }
