@@ -1,6 +1,7 @@
 // Sources of a listing: lists by name in the image, each at a row of it.
 ghost use mathlib.Core.Path.{_≡_};
 ghost use Rattle.wire.specs.Reading.{cursorIn};
+ghost use Rattle.image.specs.declared.name.Under.the-variants as U;
 ghost use Rattle.merge.specs.Sources.{isSet, valueOf, Chooses, Ended, RowsOf, ListOf};
 use image::name::Under;
 use nodes::option::OptionPart;
@@ -30,6 +31,41 @@ pub struct Choice {
     pub next: Cursor,
 }
 
+// An attribute's value.
+fn read_value(img: &[u8], at: Cursor) -> Choice
+    requires { ⌜ cursorIn (now img) at ⌝ }
+    ensures { λ r. ⌜ Chooses (now (img .entry)) U.Value at (r .given) (r .inode) (r .value) (r .next) ⌝ }
+{
+    let text = read_text(img, at, 0, 4096);
+    let next = text.next;
+    let value = Part {
+        start: text.start,
+        length: text.length,
+    };
+    Choice {
+        given: true,
+        inode: 0,
+        value,
+        next,
+    }
+}
+
+// The change of an attribute: a value, or that it is removed.
+fn read_change(img: &[u8], at: Cursor) -> Choice
+    requires { ⌜ cursorIn (now img) at ⌝ }
+    ensures { λ r. ⌜ Chooses (now (img .entry)) U.Change at (r .given) (r .inode) (r .value) (r .next) ⌝ }
+{
+    let change = read_maybe_text(img, at, 4096);
+    let option = change.option;
+    let next = change.next;
+    Choice {
+        given: is_set(option),
+        inode: 0,
+        value: value_of(option),
+        next,
+    }
+}
+
 // What stands under a name: whether the name is given, with which inode, and with which value; where there is none, 0 and an empty text.
 fn read_choice(img: &[u8], at: Cursor, what: Under) -> Choice
     requires { ⌜ cursorIn (now img) at ⌝ }
@@ -52,31 +88,8 @@ fn read_choice(img: &[u8], at: Cursor, what: Under) -> Choice
                 next,
             }
         }
-        Under::Value => {
-            let text = read_text(img, at, 0, 4096);
-            let next = text.next;
-            let value = Part {
-                start: text.start,
-                length: text.length,
-            };
-            Choice {
-                given: true,
-                inode: 0,
-                value,
-                next,
-            }
-        }
-        Under::Change => {
-            let change = read_maybe_text(img, at, 4096);
-            let option = change.option;
-            let next = change.next;
-            Choice {
-                given: is_set(option),
-                inode: 0,
-                value: value_of(option),
-                next,
-            }
-        }
+        Under::Value => read_value(img, at),
+        Under::Change => read_change(img, at),
     }
 }
 
