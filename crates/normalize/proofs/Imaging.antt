@@ -7,7 +7,6 @@ use mathlib.Core.List.{List, [], _∷_, _++_, map, append-assoc, append-nil}
 use Prim.Native.Nat.{ℕ, zero, suc, _+_, _-_, _≤_, _<_}
 use native.Mathlib.Omega.{arith}
 use native.Mathlib.Numerals.{add-one}
-use lib.Dec.{ltb}
 use lib.ListN.{length, take, drop, getD}
 use lib.Seq.{take-suc}
 use borrow.Author.Tests.{lt-ltb, le-ltb}
@@ -25,7 +24,7 @@ use Rattle.wire.specs.Lists.{lastCount}
 use Rattle.wire.specs.Put.{Put}
 use Rattle.wire.specs.Reading.{Answers}
 use Rattle.wire.proofs.Puts.{put-append}
-use Rattle.image.specs.Meaning.{Record, Base, Layer, Batch, Store}
+use Rattle.image.specs.Meaning.{Base, Layer, Batch, Store}
 use Rattle.image.specs.FieldLayout.{inode}
 use Rattle.image.specs.NodeLayout.{base}
 use Rattle.image.specs.RecordLayout.{layerRecord, records}
@@ -39,12 +38,12 @@ use Rattle.rules.specs.Refusals.{refusal}
 use Rattle.rules.specs.Outcomes.{result}
 use Rattle.rules.specs.Stacks.{stack, withLive, layers}
 use Rattle.rules.specs.Changes.{mapIf}
-use Rattle.rules.specs.Normalise.{normalLayer, normalBatch, normalBatches, normalLive}
+use Rattle.rules.specs.Normalise.{normalLayer, normalBatches, normalLive}
 use Rattle.rules.specs.ChangeCalls.{byRules}
 use Rattle.walk.specs.Walks.{Ready}
 use Rattle.change.specs.Cuts.{rowsBytes}
 use Rattle.change.specs.Sections.{between, Spans, Stands, Opens, tailOf}
-use Rattle.change.specs.Changed.{Changes, ifFits, lacksRoom}
+use Rattle.change.specs.Changed.{Changes, lacksRoom}
 use Rattle.change.specs.declared.answer.ChangeAnswer.{ChangeAnswer}
 use Rattle.change.specs.declared.answer.ChangeAnswer.the-variants as C
 use Rattle.change.specs.declared.section.Sections.{Sections}
@@ -52,13 +51,13 @@ use Rattle.change.specs.declared.section.Opened.{Opened}
 use Rattle.change.proofs.Batches.{headOf, batchBytes, queueBytes, batches-bytes}
 use Rattle.change.proofs.Cutting.{chain-rows}
 use Rattle.change.proofs.Finishing.{finish-roomless, finish-written, changes-refused, changes-made}
-use Rattle.change.proofs.Sections.{span-part, span-front, span-back, span-both, span-reads, store-bytes}
-use Rattle.walk.specs.Opens.{Over, layerBytes, layerAt, LayersOf, OpensLayers}
+use Rattle.change.proofs.Sections.{span-part, span-front, span-both, span-reads, store-bytes}
+use Rattle.walk.specs.Opens.{layerBytes, layerAt, LayersOf, OpensLayers}
 use Rattle.walk.specs.declared.open.Layers.{Layers}
 use Rattle.walk.proofs.Opening.{count-layers, layer-fits, live-fits, layers-start}
 use Rattle.normalize.specs.Records.{normalOn}
 use Rattle.normalize.specs.Rows.{normalRow, normalRows, PutsRows}
-use Rattle.normalize.specs.Images.{LayerAt, normalBytes, PutsImage, WritesImage}
+use Rattle.normalize.specs.Images.{LayerAt, PutsImage, WritesImage}
 use Rattle.normalize.proofs.Recording.{between-is}
 
 -- ---- a layer normalised, row by row

@@ -9,10 +9,8 @@ use native.Mathlib.Omega.{arith}
 use lib.Dec.{eqb}
 use borrow.Author.Tests.{eq-eqb, ne-eqb}
 use lib.ListN.{length, drop}
-use denote.Enum.Declared.{tagOf}
-use types.Run.{OneOf}
 use Rattle.wire.specs.declared.cursor.Cursor.{Cursor}
-use Rattle.wire.specs.declared.cursor.Cursor.the-variants.{At, Stop}
+use Rattle.wire.specs.declared.cursor.Cursor.the-variants.{At}
 use Rattle.wire.specs.declared.order.Ordering.{Ordering}
 use Rattle.wire.specs.declared.order.Ordering.the-variants.{Less, Equal, Greater}
 use Rattle.wire.specs.Parse.{got}
@@ -43,11 +41,10 @@ use Rattle.nodes.specs.declared.option.OptionU64.the-variants as N
 use Rattle.writers.proofs.Writing.{part-written}
 use Rattle.rules.specs.Changes.{mapIf}
 use Rattle.lookup.specs.Search.{IsList, rowName, Standing, ReadsRow}
-use Rattle.lookup.specs.declared.search.Rows.{Rows}
 use Rattle.lookup.specs.declared.search.RowRead.{RowRead}
 use Rattle.lookup.proofs.Searching.{Taken, row-taken, read-same}
 use Rattle.merge.specs.Pile.{itself}
-use Rattle.merge.specs.Merges.{sourcesOf, Ready, givenBy, givenOfMerge, rowsIfMore, mergeGives, Settles}
+use Rattle.merge.specs.Merges.{sourcesOf, givenBy, givenOfMerge, mergeGives, Settles}
 use Rattle.merge.specs.declared.merge.Sources.{Sources}
 use Rattle.merge.specs.declared.merge.Merge.{Merge}
 use Rattle.merge.proofs.Piles.{rising-pile}

@@ -2,7 +2,7 @@
 -- Assumes nothing.
 use mathlib.Core.Path.{_≡_, refl, sym, ap, _∙_}
 use mathlib.Core.Option.{Option, none, some}
-use mathlib.Core.Bool.{Bool, true, false}
+use mathlib.Core.Bool.{true, false}
 use mathlib.Core.List.{List, [], _∷_, _++_, map}
 use Prim.Native.Nat.{ℕ, zero, suc, _+_, _≤_, _<_}
 use native.Mathlib.Omega.{arith}
@@ -11,7 +11,6 @@ use Rattle.wire.specs.declared.order.Ordering.{Ordering}
 use Rattle.wire.specs.declared.order.Ordering.the-variants.{Less, Equal, Greater}
 use Rattle.wire.specs.Number.{edge}
 use Rattle.wire.specs.Orders.{byNumber, cmpN, same-N}
-use Rattle.wire.specs.Rows.{choose, lookup}
 use Rattle.wire.specs.Maps.{get}
 use Rattle.wire.specs.Lists.{Every}
 use Rattle.wire.specs.Put.{Put}
@@ -21,7 +20,7 @@ use Rattle.image.specs.FieldLayout.{inode}
 use Rattle.image.specs.RecordLayout.{layerRecord}
 use Rattle.survey.specs.declared.batch.InodeLayerStack.{InodeLayerStack}
 use Rattle.rules.specs.Reads.{isThere}
-use Rattle.rules.specs.Stacks.{over?, stackOn, stack}
+use Rattle.rules.specs.Stacks.{stackOn, stack}
 use Rattle.rules.specs.PlacedStacks.{recordsOn}
 use Rattle.rules.proofs.Layers.{stack-append}
 use Rattle.rules.proofs.MapValues.{mapRow}
@@ -29,13 +28,13 @@ use Rattle.merge.specs.Pile.{pickKey, lower, leastKey, headIf, pass, passAll}
 use Rattle.change.specs.Cuts.{rowsBytes}
 use Rattle.walk.specs.Runs.{ofRecord, Row}
 use Rattle.walk.specs.Walks.{Pieces, topOf, sourcesOf, stacksLeft, piecesIn, Ready, Steps}
-use Rattle.walk.specs.Opens.{layersOn, nodeRows, recordRows, Over}
+use Rattle.walk.specs.Opens.{nodeRows, Over}
 use Rattle.walk.specs.declared.walk.Step.{Step}
 use Rattle.walk.specs.declared.walk.Walk.{Walk}
 use Rattle.walk.proofs.Opening.{layers-snoc}
 use Rattle.walk.proofs.Stacked.{every-found, Is, over-each}
 use Rattle.normalize.specs.Records.{normalPieces}
-use Rattle.normalize.specs.Rows.{normalRow, normalRows, PutsStep, PutsRows}
+use Rattle.normalize.specs.Rows.{normalRows, PutsStep, PutsRows}
 
 -- ---- one step
 

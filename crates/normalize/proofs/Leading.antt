@@ -9,14 +9,12 @@ use lib.ListN.{drop, getD}
 use denote.Enum.Declared.{tagOf}
 use types.Run.{OneOf}
 use Rattle.wire.specs.Orders.{byBytes}
-use Rattle.wire.specs.Rows.{lookup}
 use Rattle.wire.specs.Maps.{Map, meet, get, get-merge, get-empty}
 use Rattle.image.specs.Meaning.{Text, Entries, Names}
 use Rattle.survey.specs.declared.batch.InodeLayerStack.{InodeLayerStack}
 use Rattle.image.specs.declared.name.Under as UnderN
 use Rattle.image.specs.declared.name.Under.the-variants as U
 use Rattle.image.specs.Under.{UnderName, under}
-use Rattle.nodes.specs.declared.part.Part.{Part}
 use Rattle.nodes.specs.declared.option.OptionPart.{OptionPart}
 use Rattle.nodes.specs.declared.option.OptionPart.the-variants as P
 use Rattle.deltas.specs.declared.delta.DirectoryDelta.{DirectoryDelta}
@@ -25,7 +23,7 @@ use Rattle.deltas.specs.declared.delta.NodeDelta.the-variants as D
 use Rattle.deltas.specs.declared.delta.EntryDelta.{EntryDelta}
 use Rattle.deltas.specs.declared.delta.EntryDelta.the-variants as E
 use Rattle.deltas.specs.Deltas.{entryMeant}
-use Rattle.nodes.specs.Listed.{listAt, Listed}
+use Rattle.nodes.specs.Listed.{listAt}
 use Rattle.deltas.proofs.delta.NodeDelta as delta
 use Rattle.deltas.proofs.Others.{notDirectory}
 use Rattle.rules.specs.Reads.{child, stepChild}
@@ -34,13 +32,12 @@ use Rattle.rules.specs.Starts.{starts}
 use Rattle.rules.proofs.MapValues.{get-map}
 use Rattle.rules.proofs.Forgotten.{starts-forgotten}
 use Rattle.stack.specs.Stacks.{Stacked, shownUnder, shown, RecordIs}
-use Rattle.lookup.specs.Search.{IsList}
-use Rattle.lookup.specs.Children.{EntriesAt, BaseEntries}
+use Rattle.lookup.specs.Children.{BaseEntries}
 use Rattle.stack.proofs.Walks.{shown-more}
 use Rattle.layers.proofs.Others.{other-child}
 use Rattle.merge.specs.Pile.{rowsOf, merged, itself}
 use Rattle.merge.specs.Sources.{Given, decided, listRows}
-use Rattle.merge.specs.Merges.{sourcesOf, Whole, NoSources, listsIf, Pushes, Ready, givenBy}
+use Rattle.merge.specs.Merges.{sourcesOf, Whole, NoSources, listsIf, Pushes}
 use Rattle.merge.specs.declared.merge.Sources.{Sources}
 use Rattle.merge.proofs.Piles.{pile-merged}
 use Rattle.merge.proofs.Lists.{Deciding, pileRows, pile-ascends, rows-append, sourceOf, list-are}

@@ -2,7 +2,7 @@
 -- Assumes nothing.
 use mathlib.Core.Path.{_≡_, refl, sym, ap, _∙_, subst, fun-ext}
 use mathlib.Core.Option.{Option, none, some}
-use mathlib.Core.Bool.{Bool, true, false}
+use mathlib.Core.Bool.{true, false}
 use mathlib.Core.List.{List, [], _∷_, _++_, append-assoc, append-nil}
 use Prim.Native.Nat.{ℕ, zero, suc, _+_, _-_, _≤_, _<_}
 use native.Mathlib.Omega.{arith}
@@ -12,14 +12,14 @@ use denote.Enum.Declared.{tagOf}
 use types.Run.{OneOf}
 use Rattle.wire.specs.declared.cursor.Cursor.{Cursor}
 use Rattle.wire.specs.declared.cursor.Cursor.the-variants.{At, Stop}
-use Rattle.wire.specs.Parse.{got, never-got}
+use Rattle.wire.specs.Parse.{never-got}
 use Rattle.wire.specs.Number.{numberBytes}
 use Rattle.wire.specs.Orders.{byBytes}
 use Rattle.wire.specs.Maps.{empty}
 use Rattle.wire.specs.Put.{Put}
 use Rattle.wire.specs.Reading.{placeAt}
 use Rattle.wire.proofs.Puts.{put-append}
-use Rattle.image.specs.Meaning.{Text, Kind, Entries, Names, Fields, Record, directory, file, symlink, special, tombstone, delta}
+use Rattle.image.specs.Meaning.{Text, Kind, Entries, Names, Fields, Record, directory, file, symlink, special, delta}
 use Rattle.image.specs.Masks.{maybe}
 use Rattle.image.specs.FieldLayout.{inode, entries}
 use Rattle.image.specs.KindLayout.{code}
@@ -41,7 +41,7 @@ use Rattle.deltas.proofs.delta.NodeDelta as delta-type
 use Rattle.deltas.proofs.Others.{notDirectory, one-delta}
 use Rattle.writers.proofs.Writing.{part-written}
 use Rattle.rules.specs.Reads.{child, type}
-use Rattle.rules.specs.Normalise.{normalChange, normalRecord, normalDirectory, lessAdded, lessRemoved}
+use Rattle.rules.specs.Normalise.{normalChange, normalDirectory}
 use Rattle.lookup.specs.Search.{IsList}
 use Rattle.stack.specs.Stacks.{AllRead, Stacked, shown, recordsUnder, nodeIn, RecordIs}
 use Rattle.rules.specs.Starts.{Placed}

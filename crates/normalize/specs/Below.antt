@@ -1,7 +1,6 @@
 -- What names lead to in a stack. Document 01, child: "From the top. Tombstone: none. Directory delta: removed name, none; else added name, its
 -- inode; else go on below. Other kind: none. Last, a base directory's entries."
 use mathlib.Core.Path.{_≡_}
-use mathlib.Core.Option.{Option}
 use mathlib.Core.List.{List}
 use Prim.Native.Nat.{ℕ}
 use Rattle.wire.specs.Orders.{byBytes}

@@ -1,5 +1,4 @@
 // The records of a layer, each held against the layers below.
-ghost use mathlib.Core.Path.{_≡_};
 ghost use Rattle.stack.specs.Stacks.{Stacked};
 ghost use Rattle.walk.specs.Walks.{Ready};
 ghost use Rattle.normalize.specs.Rows.{PutsStep, PutsRows};

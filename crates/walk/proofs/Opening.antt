@@ -8,16 +8,14 @@ use Prim.Native.Nat.{ℕ, zero, suc, _+_, _-_, _≤_, _<_}
 use native.Mathlib.Omega.{arith}
 use native.Mathlib.Numerals.{add-one}
 use lib.Dec.{ltb}
-use lib.ListN.{length, take, drop, getD, set, length-set}
+use lib.ListN.{length, take, drop, getD, length-set}
 use lib.Seq.{take-suc}
 use borrow.Author.Tests.{ltb-true, ltb-false}
 use Rattle.wire.specs.declared.cursor.Cursor.{Cursor}
-use Rattle.wire.specs.declared.cursor.Cursor.the-variants.{At, Stop}
-use Rattle.wire.specs.Parse.{got}
+use Rattle.wire.specs.declared.cursor.Cursor.the-variants.{At}
 use Rattle.wire.specs.Combinators.{_then_}
 use Rattle.wire.specs.Number.{numberBytes, number-read, number-back, numberTo}
 use Rattle.wire.specs.Orders.{byNumber}
-use Rattle.wire.specs.Rows.{Rising}
 use Rattle.wire.specs.Maps.{Map, empty}
 use Rattle.wire.specs.Lists.{Every, FitsRow, chain-write, row, onto, lastCount}
 use Rattle.wire.specs.Reading.{Answers, Reads, placeAt}
@@ -32,21 +30,20 @@ use Rattle.passes.specs.Held.{HeldUnder, held}
 use Rattle.image.specs.RoundTrip.{read-fits}
 use Rattle.passes.specs.declared.inode.Held.{Held}
 use Rattle.passes.specs.declared.inode.Held.the-variants as H
-use Rattle.rules.specs.Stacks.{batchLayers, withLive, layers}
+use Rattle.rules.specs.Stacks.{withLive, layers}
 use Rattle.rules.proofs.MapValues.{mapRow, map-rising}
 use Rattle.merge.specs.Pile.{Ascend}
 use Rattle.merge.proofs.Merging.{every-set}
 use Rattle.change.specs.Batches.{HeadParts}
 use Rattle.change.specs.Sections.{Spans, Stands}
 use Rattle.change.specs.declared.section.Sections.{Sections}
-use Rattle.change.proofs.Batches.{headOf, batchBytes, queueBytes, batches-bytes}
-use Rattle.change.proofs.Sections.{span-front, span-back, span-both, span-reads, Past, ends-past}
-use Rattle.walk.specs.Runs.{Piece, ofNode, ofRecord, piece, Row, rowsRead, listRows, runRows, Sound, ListOf}
-use Rattle.walk.specs.Walks.{runsOn, sourcesOf, Whole, Ready, OverBase, withRun}
-use Rattle.walk.specs.Opens.{nodeRows, recordRows, layersOn, Over, lead, layerBytes, layerAt, Starts, Ends, LayersOf, OpensLayers}
+use Rattle.change.proofs.Batches.{headOf, queueBytes, batches-bytes}
+use Rattle.change.proofs.Sections.{span-front, span-back, span-both, span-reads, ends-past}
+use Rattle.walk.specs.Runs.{ofNode, ofRecord, piece, Row, rowsRead, listRows, runRows, Sound, ListOf}
+use Rattle.walk.specs.Walks.{runsOn, sourcesOf, OverBase, withRun}
+use Rattle.walk.specs.Opens.{nodeRows, recordRows, layersOn, lead, layerBytes, layerAt, Starts, Ends, LayersOf, OpensLayers}
 use Rattle.walk.specs.declared.run.Run.{Run}
 use Rattle.walk.specs.declared.walk.Walk.{Walk}
-use Rattle.walk.specs.declared.open.Layers.{Layers}
 use Rattle.walk.proofs.Stepping.{sources-set}
 
 -- ---- the rows of a list that was written

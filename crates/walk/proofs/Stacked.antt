@@ -1,6 +1,6 @@
 -- The stacks that a walk over a base and layers has left are those of the base and layers, for every inode in any of them.
 -- Assumes nothing.
-use mathlib.Core.Path.{_≡_, refl, sym, ap, _∙_}
+use mathlib.Core.Path.{_≡_, refl}
 use mathlib.Core.Option.{Option, none, some}
 use mathlib.Core.List.{List, [], _∷_}
 use Prim.Native.Nat.{ℕ}
@@ -16,12 +16,12 @@ use Rattle.wire.specs.Lists.{Every}
 use Rattle.image.specs.Meaning.{Node, Record, Base, Layer}
 use Rattle.rules.specs.Changes.{mapIf}
 use Rattle.rules.specs.Stacks.{over?, stackOn, stack}
-use Rattle.rules.proofs.MapValues.{mapValues, map-rows, get-map}
-use Rattle.merge.specs.Pile.{pile, merged, rowsOf}
+use Rattle.rules.proofs.MapValues.{mapValues, get-map}
+use Rattle.merge.specs.Pile.{merged, rowsOf}
 use Rattle.merge.proofs.Piles.{pile-merged, rising-pile}
 use Rattle.walk.specs.Runs.{Piece, ofNode, ofRecord}
 use Rattle.walk.specs.Walks.{Pieces, orNothing, laying, stacksOf, sourcesOf, stacksLeft}
-use Rattle.walk.specs.Opens.{nodeRows, recordRows, layersOn, Over}
+use Rattle.walk.specs.Opens.{nodeRows, layersOn, Over}
 use Rattle.walk.specs.declared.walk.Walk.{Walk}
 
 mapsOn : List Layer → List (Map byNumber Piece) → List (Map byNumber Piece)

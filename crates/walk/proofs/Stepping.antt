@@ -12,10 +12,8 @@ use lib.Seq.{take-suc, take-suc-set}
 use Rattle.wire.specs.declared.order.Ordering.{Ordering}
 use Rattle.wire.specs.declared.order.Ordering.the-variants.{Less, Equal, Greater}
 use Rattle.wire.specs.Orders.{byNumber, greater-N, says, Says, cmpN}
-use Rattle.wire.specs.Lists.{Every}
 use Rattle.wire.specs.Maps.{meet}
 use Rattle.image.specs.Meaning.{Node, Record}
-use Rattle.image.specs.RecordLayout.{layerRecord}
 use Rattle.image.specs.NodeLayout.{node}
 use Rattle.passes.specs.Held.{placeOf}
 use Rattle.survey.specs.Gathering.{listIf, deltasOf, Pushed}
@@ -24,15 +22,14 @@ use Rattle.passes.specs.declared.inode.Held.the-variants as H
 use Rattle.passes.specs.declared.inode.Place.{Place}
 use Rattle.survey.specs.declared.batch.InodeLayerStack.{InodeLayerStack}
 use Rattle.rules.specs.Reads.{isThere}
-use Rattle.rules.specs.Starts.{Placed}
 use Rattle.rules.specs.PlacedStacks.{recordsOn, unplaced, unplacedNode, nodeAt}
 use Rattle.rules.proofs.PlacedStack.{records-snoc}
-use Rattle.stack.specs.Stacks.{AllRead, NodeRead, Stacked}
-use Rattle.merge.specs.Pile.{firstKey, pickKey, lower, leastKey, headIf, passAll, Ascend, pile, answer, row}
+use Rattle.stack.specs.Stacks.{AllRead, NodeRead}
+use Rattle.merge.specs.Pile.{firstKey, pickKey, lower, leastKey, headIf, passAll, answer}
 use Rattle.merge.proofs.Piles.{pile-step, pile-end, ascend-pass}
 use Rattle.merge.proofs.Merging.{every-replicate, every-set, every-get}
-use Rattle.walk.specs.Runs.{Piece, ofNode, ofRecord, piece, Row, rowsLeft, runRows, listRows, Ended, Sound, ListOf, Has, pieceAt, ReadAt, Found, Passed}
-use Rattle.walk.specs.Walks.{Pieces, lay, orNothing, laying, stacksOf, topOf, runsOn, sourcesUnder, sourcesOf, stacksLeft, piecesIn, Whole, Ready, keyIf, keyOf, Lower, Least, Taken, stacksIf, Steps, OverBase}
+use Rattle.walk.specs.Runs.{Piece, Row, rowsLeft, runRows, Ended, Sound, ListOf, Has, pieceAt, ReadAt, Found, Passed}
+use Rattle.walk.specs.Walks.{Pieces, orNothing, laying, topOf, runsOn, sourcesUnder, sourcesOf, stacksLeft, piecesIn, Whole, Ready, keyIf, keyOf, Lower, Least, Taken, stacksIf, Steps, OverBase}
 use Rattle.walk.specs.declared.run.Run.{Run}
 use Rattle.walk.specs.declared.walk.Walk.{Walk}
 use Rattle.walk.specs.declared.walk.First.{First}

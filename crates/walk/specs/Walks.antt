@@ -14,7 +14,7 @@ use Rattle.survey.specs.declared.batch.InodeLayerStack.{InodeLayerStack}
 use Rattle.rules.specs.Reads.{isThere}
 use Rattle.rules.specs.PlacedStacks.{unplaced, unplacedNode}
 use Rattle.stack.specs.Stacks.{Stacked, recordsIn, nodeIn}
-use Rattle.merge.specs.Pile.{firstKey, lower, leastKey, headIf, passAll, Ascend, pile, answer}
+use Rattle.merge.specs.Pile.{lower, leastKey, headIf, passAll, Ascend, pile, answer}
 use Rattle.walk.specs.Runs.{Piece, ofNode, ofRecord, Row, runRows, listRows, Sound}
 use Rattle.walk.specs.declared.run.Run.{Run}
 use Rattle.walk.specs.declared.walk.Walk.{Walk}

@@ -1,6 +1,5 @@
 // A walk over the base and the first layers of an image.
 ghost use Prim.Native.Nat.{_≤_};
-ghost use mathlib.Core.Path.{_≡_};
 ghost use Rattle.walk.specs.Opens.{Starts, Ends, OpensLayers};
 use crate::run::run_at;
 use crate::walk::Walk;

@@ -1,5 +1,4 @@
 // Runs: lists by inode in the image, each at a row of it.
-ghost use mathlib.Core.Path.{_≡_};
 ghost use Rattle.passes.specs.Held.{held};
 ghost use Rattle.image.specs.Places.{Ends};
 ghost use Rattle.walk.specs.Runs.{Ended, Sound, RowsOf, ListOf, Has, Found, Passed};

@@ -2,8 +2,6 @@
 ghost use Prim.Native.Nat.{_<_};
 ghost use lib.ListN.{length};
 ghost use mathlib.Core.Path.{_≡_};
-ghost use Rattle.passes.specs.declared.inode.Held.the-variants as H;
-ghost use Rattle.walk.specs.Runs.{Sound};
 ghost use Rattle.walk.specs.Walks.{Whole, Ready, Lower, Least, Taken, Steps, OverBase, withRun};
 use crate::run::Run;
 use crate::run::has_inode;
