@@ -4,9 +4,9 @@ ghost use Rattle.writers.specs.Batches.{headMeant};
 ghost use Rattle.change.specs.Batches.{passBatch};
 use passes::inode::Held;
 use passes::inode::find_inode;
+use wire::cursor::Cursor;
 use writers::batch::BatchHeadRead;
 use writers::batch::read_batch_head;
-use wire::cursor::Cursor;
 
 // The head of the batch at `at`; the cursor is that after its records.
 pub fn pass_batch(img: &[u8], at: Cursor) -> BatchHeadRead

@@ -4,6 +4,7 @@ ghost use mathlib.Core.Path.{_≡_};
 ghost use Rattle.image.specs.Meaning.{directory, file, symlink};
 ghost use Rattle.image.specs.KindLayout.{kindAt};
 ghost use Rattle.deltas.specs.Deltas.{attrOf, specialDelta, ReadsDelta, ReadsEntry};
+use image::name::Under;
 use nodes::attr::AttrDelta;
 use nodes::attr::read_attr_delta;
 use nodes::option::OptionPart;
@@ -12,7 +13,6 @@ use nodes::option::read_maybe_number;
 use nodes::option::read_maybe_text;
 use nodes::part::Part;
 use nodes::part::read_names;
-use image::name::Under;
 use wire::cursor::Cursor;
 use wire::number::read_number;
 

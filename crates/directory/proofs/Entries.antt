@@ -79,7 +79,6 @@ module _ {K A : Type 0} (O : Order K) where
   set-cut k none l r = remove-cut k l r
   set-cut k (some v) l r = insert-cut O k v l
 
-
 -- ---- the name's own row
 
 own-bytes : (u : Sort) (k : Text) (own : Own) (o : Option (UnderName u)) → Owns u own o → ownBytes k own ≡ rowsBytes name (under u) (rowIf byBytes k o)

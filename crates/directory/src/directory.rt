@@ -7,6 +7,15 @@ ghost use Rattle.rules.specs.ChangeCalls.{addDirEntry, removeDirEntry, updateDi
 ghost use Rattle.change.specs.Changed.{Changes};
 ghost use Rattle.overlay.specs.Directories.{Redirects};
 ghost use Rattle.directory.specs.Entries.{stampedOf, Renames, ChangesName};
+use crate::name::with_own;
+use change::answer::ChangeAnswer;
+use change::cut::cut_records;
+use change::section::Sections;
+use change::section::open_sections;
+use image::name::Under;
+use nodes::attr::AttrDelta;
+use nodes::option::OptionTime;
+use nodes::option::OptionU64;
 use overlay::delta::Directed;
 use overlay::delta::LiveDirectory;
 use overlay::delta::NewList;
@@ -14,18 +23,9 @@ use overlay::delta::Own;
 use overlay::delta::kept;
 use overlay::delta::live_directory;
 use overlay::live::lived;
-use crate::name::with_own;
 use overlay::write::NewImage;
 use overlay::write::write_image;
-use change::answer::ChangeAnswer;
-use change::cut::cut_records;
-use change::section::Sections;
-use change::section::open_sections;
-use image::name::Under;
 use stack::name::bad_name;
-use nodes::attr::AttrDelta;
-use nodes::option::OptionTime;
-use nodes::option::OptionU64;
 use wire::time::Time;
 
 // Adds an entry to the live directory delta, and takes its name out of removed.

@@ -7,10 +7,10 @@ use crate::write::Flush;
 use crate::write::write_flushed;
 use change::answer::ChangeAnswer;
 use change::section::open_sections;
-use writers::tail::read_tail;
 use walk::open::open_layers;
 use wire::cursor::Cursor;
 use wire::number::read_number;
+use writers::tail::read_tail;
 
 // Applies the front batch to the base. The batch stays in the queue.
 pub fn fold_entries(img: &[u8], target: &mut [u8]) -> ChangeAnswer

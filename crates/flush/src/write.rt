@@ -9,10 +9,10 @@ use crate::node::put_base;
 use change::answer::ChangeAnswer;
 use change::answer::lacks_room;
 use change::copy::put_between;
-use writers::tail::Tail;
-use writers::tail::put_tail;
 use walk::walk::Walk;
 use wire::number::put_number;
+use writers::tail::Tail;
+use writers::tail::put_tail;
 
 // What follows the new base.
 pub enum Flush {

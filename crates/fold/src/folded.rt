@@ -8,24 +8,24 @@ use crate::list::put_entries;
 use apply::node::apply_to_node;
 use apply::node::initial_node;
 use attrs::node::kind_type;
+use deltas::delta::EntryDelta;
+use deltas::delta::NodeDelta;
 use gather::gather::of_type;
-use survey::batch::InodeLayerStack;
+use nodes::node::Node;
+use nodes::node::NodeKind;
 use passes::inode::Place;
 use passes::node::pass_node;
+use records::write_node::kind_number;
+use records::write_node::put_body;
 use stack::stack::OptionNode;
 use stack::stack::base_node;
 use stack::stack::record_at;
-use deltas::delta::EntryDelta;
-use deltas::delta::NodeDelta;
-use nodes::node::Node;
-use nodes::node::NodeKind;
-use writers::write_attr::put_inode_meta;
-use records::write_node::kind_number;
-use records::write_node::put_body;
+use survey::batch::InodeLayerStack;
 use wire::cursor::Cursor;
 use wire::cursor::place_at;
 use wire::number::put_number;
 use wire::put::put_part;
+use writers::write_attr::put_inode_meta;
 
 // A delta of the node's kind is applied; one of another kind does nothing.
 fn fold_delta(delta: NodeDelta, node: Node) -> Node

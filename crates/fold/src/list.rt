@@ -11,14 +11,14 @@ ghost use Rattle.fold.specs.Lists.{rowGiven, rowsGiven, listGiven, Few, 
 use attrs::node::FileType;
 use gather::gather::Lists;
 use gather::gather::gather_sources;
-use survey::batch::InodeLayerStack;
 use merge::merge::Merge;
 use merge::merge::Sources;
 use merge::merge::settle;
 use nodes::part::Part;
+use survey::batch::InodeLayerStack;
+use wire::number::put_number;
 use writers::write::put_entry;
 use writers::write::put_text_part;
-use wire::number::put_number;
 
 // The entries of a directory, or the attributes.
 pub enum NameList {

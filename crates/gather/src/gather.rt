@@ -13,22 +13,22 @@ ghost use Rattle.gather.specs.Gathers.{Gathers};
 use attrs::attr::type_row;
 use attrs::node::FileType;
 use attrs::node::delta_type;
-use survey::batch::InodeLayerStack;
+use deltas::delta::EntryDelta;
+use deltas::delta::NodeDelta;
+use deltas::delta::attr_delta;
 use image::name::Under;
-use stack::stack::OptionNode;
-use stack::stack::base_node;
-use stack::stack::record_at;
 use merge::merge::Sources;
 use merge::merge::no_sources;
 use merge::merge::push_list;
 use merge::merge::push_list_if;
 use merge::merge::push_source;
 use merge::source::source_at;
-use deltas::delta::EntryDelta;
-use deltas::delta::NodeDelta;
-use deltas::delta::attr_delta;
 use nodes::node::Node;
 use nodes::node::NodeKind;
+use stack::stack::OptionNode;
+use stack::stack::base_node;
+use stack::stack::record_at;
+use survey::batch::InodeLayerStack;
 
 // Which lists: the entries of a directory, the attributes, or the attributes without the changes of deltas of another type.
 pub enum Lists {

@@ -10,16 +10,16 @@ ghost use Rattle.layers.specs.Attrs.{EntryTargetIn, BaseLinkIn, attrIf};
 ghost use Rattle.layers.specs.Answered.{attrAnswered};
 ghost use Rattle.stack.specs.Stacks.{Stacked, shown, nodeMeantIf};
 use crate::answer::AttrAnswer;
-use stack::stack::OptionNode;
-use stack::stack::base_node;
-use stack::stack::open_image;
-use stack::stack::record_at;
 use attrs::attr::applied;
 use attrs::attr::initial_attr;
 use attrs::attr::node_attr;
 use attrs::node::FileAttr;
-use survey::batch::InodeLayerStack;
 use deltas::delta::EntryDelta;
+use stack::stack::OptionNode;
+use stack::stack::base_node;
+use stack::stack::open_image;
+use stack::stack::record_at;
+use survey::batch::InodeLayerStack;
 
 pub enum OptionAttr {
     Some(FileAttr),

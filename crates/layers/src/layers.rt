@@ -9,6 +9,11 @@ ghost use Rattle.layers.specs.Answered.{yesNo, typeAnswered, inodeAnswer
 use crate::answer::InodeAnswer;
 use crate::answer::TypeAnswer;
 use crate::answer::YesNo;
+use deltas::delta::EntryDelta;
+use deltas::delta::NodeDelta;
+use nodes::node::NodeKind;
+use nodes::option::OptionPart;
+use nodes::option::OptionU64;
 use stack::file_type::OptionType;
 use stack::file_type::type_in;
 use stack::stack::OptionNode;
@@ -16,11 +21,6 @@ use stack::stack::base_node;
 use stack::stack::open_image;
 use stack::stack::record_at;
 use survey::batch::InodeLayerStack;
-use deltas::delta::EntryDelta;
-use deltas::delta::NodeDelta;
-use nodes::node::NodeKind;
-use nodes::option::OptionPart;
-use nodes::option::OptionU64;
 use wire::part::part;
 
 // Whether the inode exists.

@@ -1,10 +1,10 @@
 // Looking for a name in a list by name, where the list stands.
 ghost use Rattle.passes.specs.Held.{placeOf};
 ghost use Rattle.lookup.specs.Search.{IsList, ListRows, RowAt, ReadsRow, Finds};
-use passes::inode::Place;
 use image::name::Under;
 use image::name::pass_under;
 use nodes::part::Part;
+use passes::inode::Place;
 use wire::cursor::Cursor;
 use wire::cursor::place_at;
 use wire::number::read_number;

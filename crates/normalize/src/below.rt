@@ -6,17 +6,17 @@ ghost use Rattle.stack.specs.Stacks.{Stacked};
 ghost use Rattle.merge.specs.Sources.{listRows};
 ghost use Rattle.merge.specs.Merges.{Whole, Pushes};
 ghost use Rattle.normalize.specs.Below.{Leads};
-use survey::batch::InodeLayerStack;
+use deltas::delta::DirectoryDelta;
+use deltas::delta::EntryDelta;
+use deltas::delta::NodeDelta;
 use image::name::Under;
 use lookup::child::base_entries;
-use stack::stack::record_at;
 use merge::merge::Sources;
 use merge::merge::no_sources;
 use merge::merge::push_list;
 use merge::merge::push_list_if;
-use deltas::delta::DirectoryDelta;
-use deltas::delta::EntryDelta;
-use deltas::delta::NodeDelta;
+use stack::stack::record_at;
+use survey::batch::InodeLayerStack;
 
 // A child lookup asks what a delta removes before what it adds.
 fn push_directory(img: &[u8], all: Sources, directory: DirectoryDelta) -> Sources

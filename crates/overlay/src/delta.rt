@@ -5,24 +5,24 @@ ghost use Rattle.overlay.specs.Directories.{directoryOf, nodeDirectory, 
 ghost use Rattle.overlay.specs.NewImages.{ownBytes, rowsAnew, listAnew, directoryAnew};
 use crate::write::Lived;
 use change::copy::put_between;
-use passes::inode::Place;
-use nodes::attr::AttrDelta;
 use deltas::delta::DirectoryDelta;
 use deltas::delta::EntryDelta;
 use deltas::delta::NodeDelta;
 use deltas::delta::read_entry_delta;
+use nodes::attr::AttrDelta;
 use nodes::option::OptionPart;
 use nodes::option::OptionTime;
 use nodes::option::OptionU32;
 use nodes::option::OptionU64;
 use nodes::part::Part;
-use writers::write::put_maybe_number;
-use writers::write_attr::put_attr_delta;
+use passes::inode::Place;
 use records::write_node::put_list_if;
 use wire::cursor::Cursor;
 use wire::number::put_number;
 use wire::put::put_part;
 use wire::text::put_text;
+use writers::write::put_maybe_number;
+use writers::write_attr::put_attr_delta;
 
 // A directory delta. A list that isn't there is empty.
 pub struct LiveDelta {

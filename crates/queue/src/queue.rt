@@ -21,13 +21,13 @@ use crate::write::write_queue;
 use change::answer::ChangeAnswer;
 use change::batch::pass_batch;
 use change::section::open_sections;
-use writers::batch::BatchHead;
-use writers::tail::Tail;
-use writers::tail::read_tail;
 use wire::cursor::Cursor;
 use wire::cursor::place_at;
 use wire::number::read_number;
 use wire::time::Time;
+use writers::batch::BatchHead;
+use writers::tail::Tail;
+use writers::tail::read_tail;
 
 // Requests a freeze, for a reason from 1 to 5; 0 takes a request back.
 pub fn request(img: &[u8], reason: u64, target: &mut [u8]) -> ChangeAnswer

@@ -7,11 +7,11 @@ use change::answer::ChangeAnswer;
 use change::answer::lacks_room;
 use change::copy::put_between;
 use change::section::Sections;
+use wire::number::put_number;
 use writers::batch::BatchHead;
 use writers::batch::put_batch_head;
 use writers::tail::Tail;
 use writers::tail::put_tail;
-use wire::number::put_number;
 
 // What is new in an image; all else is copied from the old one.
 pub enum NewQueue {

@@ -7,11 +7,6 @@ ghost use Rattle.image.specs.Meaning.{kindNumber, kindOf, changedKind};
 ghost use Rattle.deltas.specs.Deltas.{changeMeant};
 ghost use Rattle.nodes.specs.Nodes.{bodyMeant};
 ghost use Rattle.records.specs.Records.{listBytes, directoryBytes, changeBytes, entryBytes, bodyBytes, nodeBytes};
-use writers::write::put_maybe_number;
-use writers::write::put_maybe_part;
-use writers::write::put_text_part;
-use writers::write_attr::put_attr_delta;
-use writers::write_attr::put_inode_meta;
 use deltas::delta::DirectoryDelta;
 use deltas::delta::EntryDelta;
 use deltas::delta::NodeDelta;
@@ -21,6 +16,11 @@ use nodes::node::NodeKind;
 use nodes::option::OptionPart;
 use wire::number::put_number;
 use wire::put::put_part;
+use writers::write::put_maybe_number;
+use writers::write::put_maybe_part;
+use writers::write::put_text_part;
+use writers::write_attr::put_attr_delta;
+use writers::write_attr::put_inode_meta;
 
 // Writes a record, from its code on.
 pub fn put_entry_delta(buf: &mut [u8], at: usize, img: &[u8], delta: EntryDelta) -> usize

@@ -12,17 +12,17 @@ ghost use lib.ListN.{length};
 use attrs::node::FileType;
 use gather::gather::Lists;
 use gather::gather::gather_sources;
-use survey::batch::InodeLayerStack;
 use layers::answer::RowsAnswer;
 use layers::attr::OptionAttr;
 use layers::attr::shown_attr;
-use stack::stack::open_image;
 use merge::merge::Counted;
 use merge::merge::Merge;
 use merge::merge::count_rows;
 use merge::merge::no_sources;
 use merge::merge::settle;
 use merge::source::no_value;
+use stack::stack::open_image;
+use survey::batch::InodeLayerStack;
 
 // The names of a directory's entries, or those of the attributes.
 pub enum Listing {

@@ -10,11 +10,11 @@ ghost use Rattle.stack.specs.Stacks.{nodeMeantIf, typeOf, Stacked, shown
 use crate::stack::OptionNode;
 use crate::stack::base_node;
 use crate::stack::record_at;
-use survey::batch::InodeLayerStack;
 use attrs::node::FileType;
 use attrs::node::delta_type;
 use attrs::node::kind_type;
 use deltas::delta::EntryDelta;
+use survey::batch::InodeLayerStack;
 
 // A type, if there is one.
 pub enum OptionType {

@@ -3,14 +3,14 @@ ghost use Prim.Native.Nat.{_<_};
 ghost use lib.ListN.{getD};
 ghost use Rattle.passes.specs.Held.{placeOf};
 ghost use Rattle.stack.specs.Stacks.{Opens, Stacked, RecordIs, BaseIs};
-use survey::batch::InodeLayerStack;
-use passes::inode::Place;
-use survey::store::read_image;
-use survey::store::refusal_number;
 use deltas::delta::EntryDelta;
 use deltas::delta::read_entry_delta;
 use nodes::node::Node;
 use nodes::node::read_node;
+use passes::inode::Place;
+use survey::batch::InodeLayerStack;
+use survey::store::read_image;
+use survey::store::refusal_number;
 use wire::cursor::Cursor;
 
 // The refusal is 0 if there is none; with one, the stack says nothing.

@@ -3,8 +3,8 @@ ghost use mathlib.Core.Path.{_≡_};
 ghost use Rattle.wire.specs.Put.{Put};
 ghost use Rattle.update.specs.Fields.{orWord, orTime, orPart, wordsOver, timesOver, attrOver};
 ghost use Rattle.update.specs.Anew.{bareBytes, changeAnew, deltaAnew};
-use meld::merged::put_changes;
 use change::copy::put_between;
+use meld::merged::put_changes;
 use nodes::attr::AttrDelta;
 use nodes::attr::Times;
 use nodes::attr::Words;
@@ -12,8 +12,8 @@ use nodes::option::OptionPart;
 use nodes::option::OptionTime;
 use nodes::option::OptionU32;
 use overlay::write::Lived;
-use writers::write_attr::put_attr_delta;
 use wire::number::put_number;
+use writers::write_attr::put_attr_delta;
 
 // What a delta changes by its kind, afterwards.
 pub enum NewChange {

@@ -103,14 +103,7 @@ fn replay(line: &[u8], call: Call, last: usize)
 }
 
 // Lends the image, the second word as bytes, and a target.
-fn lend(
-    line: &[u8],
-    call: Call,
-    last: usize,
-    image: &mut [u8],
-    given: &mut [u8],
-    target: &mut [u8],
-)
+fn lend(line: &[u8], call: Call, last: usize, image: &mut [u8], given: &mut [u8], target: &mut [u8])
     requires { ⌜ last ≤ 6 ⌝ }
 {
     let length = bytes(word(line, last + 1), image);

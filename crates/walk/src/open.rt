@@ -8,10 +8,10 @@ use crate::walk::walk_base;
 use change::section::Sections;
 use passes::inode::Held;
 use passes::inode::find_inode;
-use writers::batch::read_batch_head;
 use wire::cursor::Cursor;
 use wire::cursor::place_at;
 use wire::number::read_number;
+use writers::batch::read_batch_head;
 
 // A walk, and where the records of its topmost layer start, with their count, and end.
 pub struct Layers {

@@ -9,9 +9,9 @@ use crate::run::no_run;
 use crate::run::past_inode;
 use crate::run::place_under;
 use crate::run::run_at;
+use passes::inode::Held;
 use survey::batch::InodeLayerStack;
 use survey::batch::pushed;
-use passes::inode::Held;
 
 // The base, and `count` layers over it, the lowest first.
 pub struct Walk {
