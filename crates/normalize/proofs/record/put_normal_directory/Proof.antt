@@ -8,7 +8,7 @@ use Rattle.normalize.proofs.record.put_normal_directory.Tie as tie
 use Rattle.normalize.proofs.record.put_normal_directory.Reads as reads
 use Rattle.normalize.proofs.record.put_normal_directory.Lts as lts
 use Rattle.change.proofs.copy.put_between.Reads as put-between-reads
-use Rattle.layers.proofs.layers.type_in.Reads as type-in-reads
+use Rattle.stack.proofs.file_type.type_in.Reads as type-in-reads
 use Rattle.merge.proofs.merge.settle.Reads as settle-reads
 use Rattle.normalize.proofs.below.names_in.Reads as names-in-reads
 use Rattle.normalize.proofs.keep.put_kept_list.Reads as put-kept-list-reads
