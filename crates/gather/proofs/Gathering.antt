@@ -173,16 +173,16 @@ module _ (img : List ℕ) (s : InodeLayerStack) (l : Lists) where
   pub record Gathering (all : Sources) (i : ℕ) : Type 0 where
     pub low : i ≤ s .count
     pub few : all .count + 2 * i ≤ 2 * s .count
-    pub whole : Whole img all
+    pub whole : Whole all
     pub are : sourcesOf img all ++ pileUnder i ≡ pileUnder (s .count)
     pub short : Every Short (sourcesOf img all)
 
-gathered : {img : List ℕ} {s : InodeLayerStack} {l : Lists} {all : Sources} → Whole img all → sourcesOf img all ≡ pileUnder img s l (s .count) → Every Short (sourcesOf img all) → Gathers img s l all
+gathered : {img : List ℕ} {s : InodeLayerStack} {l : Lists} {all : Sources} → Whole all → sourcesOf img all ≡ pileUnder img s l (s .count) → Every Short (sourcesOf img all) → Gathers img s l all
 gathered w e h = record { are = e; whole = w; short = h }
 
 module _ {img : List ℕ} {s : InodeLayerStack} {l : Lists} {all : Sources} where
   pub gathering-none : NoSources all → Gathering img s l all (s .count)
-  gathering-none n = record { low = omega arith; few = omega (arith, n .none-yet); whole = n .whole img; are = rw (n .none-yet); short = rw (n .none-yet) tt }
+  gathering-none n = record { low = omega arith; few = omega (arith, n .none-yet); whole = n .whole; are = rw (n .none-yet); short = rw (n .none-yet) tt }
 
   end-at : Stacked img s → (j : ℕ) → j < s .count → Gathering img s l all (j + 1) → (e : EntryDelta) → RecordIs img (getD (s .deltas) j 0) e → isTombstone e ≡ true → Gathers img s l all
   unfolding rowsOf

@@ -73,5 +73,5 @@ Short l = length l ≤ lastCount
 -- the sources are those of the stack
 pub record Gathers (img : List ℕ) (s : InodeLayerStack) (l : Lists) (r : Sources) : Type 0 where
   pub are : sourcesOf img r ≡ pileRows (pileOf l (recordsIn img s) (nodeIn img s))
-  pub whole : Whole img r
+  pub whole : Whole r
   pub short : Every Short (sourcesOf img r)

@@ -47,7 +47,7 @@ pub fn of_type(delta: NodeDelta, file_type: FileType) -> bool
 
 // What a directory delta adds is over what it removes.
 fn push_change(img: &[u8], all: Sources, delta: NodeDelta) -> Sources
-    requires { ⌜ Whole (now img) all × (all .count < 34) ⌝ }
+    requires { ⌜ Whole all × (all .count < 34) ⌝ }
     ensures { λ r. ⌜ Pushes (now (img .entry)) all (changeLists (now (img .entry)) delta) r ⌝ }
 {
     let NodeDelta::Directory(directory) = delta else {
@@ -62,7 +62,7 @@ fn push_change(img: &[u8], all: Sources, delta: NodeDelta) -> Sources
 
 // The attribute changes of a delta, whatever its kind.
 fn push_changes(img: &[u8], all: Sources, delta: NodeDelta) -> Sources
-    requires { ⌜ Whole (now img) all × (all .count < 34) ⌝ }
+    requires { ⌜ Whole all × (all .count < 34) ⌝ }
     ensures { λ r. ⌜ Pushes (now (img .entry)) all (alterLists (now (img .entry)) (attrOf delta .xattrs)) r ⌝ }
 {
     let attr = attr_delta(delta);
@@ -72,7 +72,7 @@ fn push_changes(img: &[u8], all: Sources, delta: NodeDelta) -> Sources
 
 // The same, if it is of the type.
 fn push_changes_of(img: &[u8], all: Sources, delta: NodeDelta, file_type: FileType) -> Sources
-    requires { ⌜ Whole (now img) all × (all .count < 34) ⌝ }
+    requires { ⌜ Whole all × (all .count < 34) ⌝ }
     ensures { λ r. ⌜ Pushes (now (img .entry)) all (alterListsOf (now (img .entry)) (kindMeant «file_type») delta) r ⌝ }
 {
     if of_type(delta, file_type) {
@@ -82,7 +82,7 @@ fn push_changes_of(img: &[u8], all: Sources, delta: NodeDelta, file_type: FileTy
 }
 
 fn push_delta(img: &[u8], all: Sources, delta: NodeDelta, lists: Lists) -> Sources
-    requires { ⌜ Whole (now img) all × (all .count < 34) ⌝ }
+    requires { ⌜ Whole all × (all .count < 34) ⌝ }
     ensures { λ r. ⌜ Pushes (now (img .entry)) all (deltaLists (now (img .entry)) lists delta) r ⌝ }
 {
     match lists {
@@ -93,7 +93,7 @@ fn push_delta(img: &[u8], all: Sources, delta: NodeDelta, lists: Lists) -> Sourc
 }
 
 fn push_record(img: &[u8], all: Sources, entry: EntryDelta, lists: Lists) -> Sources
-    requires { ⌜ Whole (now img) all × (all .count < 34) ⌝ }
+    requires { ⌜ Whole all × (all .count < 34) ⌝ }
     ensures { λ r. ⌜ Pushes (now (img .entry)) all (recordLists (now (img .entry)) lists entry) r ⌝ }
 {
     match entry {
@@ -103,7 +103,7 @@ fn push_record(img: &[u8], all: Sources, entry: EntryDelta, lists: Lists) -> Sou
 }
 
 fn push_entries(img: &[u8], all: Sources, kind: NodeKind) -> Sources
-    requires { ⌜ Whole (now img) all × (all .count < 35) ⌝ }
+    requires { ⌜ Whole all × (all .count < 35) ⌝ }
     ensures { λ r. ⌜ Pushes (now (img .entry)) all (entryLists (now (img .entry)) kind) r ⌝ }
 {
     match kind {
@@ -113,7 +113,7 @@ fn push_entries(img: &[u8], all: Sources, kind: NodeKind) -> Sources
 }
 
 fn push_node(img: &[u8], all: Sources, node: Node, lists: Lists) -> Sources
-    requires { ⌜ Whole (now img) all × (all .count < 35) ⌝ }
+    requires { ⌜ Whole all × (all .count < 35) ⌝ }
     ensures { λ r. ⌜ Pushes (now (img .entry)) all (nodeLists (now (img .entry)) lists node) r ⌝ }
 {
     let kind = node.kind;
@@ -127,7 +127,7 @@ fn push_node(img: &[u8], all: Sources, node: Node, lists: Lists) -> Sources
 }
 
 fn push_base(img: &[u8], all: Sources, base: OptionNode, lists: Lists) -> Sources
-    requires { ⌜ Whole (now img) all × (all .count < 35) ⌝ }
+    requires { ⌜ Whole all × (all .count < 35) ⌝ }
     ensures { λ r. ⌜ Pushes (now (img .entry)) all (baseLists (now (img .entry)) lists base) r ⌝ }
 {
     match base {

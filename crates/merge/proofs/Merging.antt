@@ -1,6 +1,7 @@
 -- The loops over the sources, and one row more or less of each.
 -- Assumes nothing.
 use mathlib.Core.Path.{_≡_, refl, sym, ap, _∙_}
+use mathlib.Core.Bool.{Bool, true, false}
 use mathlib.Core.List.{List, [], _∷_, _++_, map, append-assoc, append-nil}
 use Prim.Native.Nat.{ℕ, zero, suc, _+_, _-_, _≤_, _<_}
 use native.Mathlib.Omega.{arith}
@@ -10,62 +11,42 @@ use lib.Seq.{drop-cons, getD-take, length-take-le, take-suc-set}
 use Rattle.wire.specs.declared.order.Ordering.{Ordering}
 use Rattle.wire.specs.declared.order.Ordering.the-variants.{Less, Equal, Greater}
 use Rattle.wire.specs.Orders.{byBytes}
-use Rattle.wire.specs.Lists.{Every}
 use Rattle.wire.specs.Reading.{part}
 use Rattle.image.specs.Meaning.{Text}
 use Rattle.image.specs.declared.name.Under.{Under}
 use Rattle.merge.specs.Pile.{pass, passAll, first, upper, least}
-use Rattle.merge.specs.Sources.{Decided, listRows, sourceRows, Ended, Inside, RowsOf, ListOf}
-use Rattle.merge.specs.Merges.{sourcesOf, Whole, NoSources, withSource, Pushes, Upper, Least, Passed, PassedAll}
+use Rattle.merge.specs.Sources.{Decided, rowsFrom, listRows, sourceRows, rowAt, rowsIfMore, NoRow, Inside, HeadOf, ListOf}
+use Rattle.merge.specs.Merges.{sourcesOf, Whole, NoSources, withSource, rowIf, headRow, Pushes, Upper, Least, Passed, PassedAll}
 use Rattle.merge.specs.declared.source.Source.{Source}
+use Rattle.merge.specs.declared.source.Head.{Head}
 use Rattle.merge.specs.declared.merge.Sources.{Sources}
-use Rattle.merge.proofs.Sourced.{source-first, ended-inside}
-
--- ---- each element of an array
-
-module _ {A : Type 0} (P : A → Type 0) where
-  pub every-replicate : (n : ℕ) (a : A) → P a → Every P (replicate n a)
-  every-replicate zero a h = tt
-  every-replicate (suc n) a h = (h, every-replicate n a h)
-
-  pub every-set : (l : List A) (i : ℕ) (a : A) → Every P l → P a → Every P (set l i a)
-  every-set [] i a h k = tt
-  every-set (x ∷ l) zero a h k = (k, h .1)
-  every-set (x ∷ l) (suc i) a h k = (h .0, every-set l i a (h .1) k)
-
-  pub every-get : (l : List A) (i : ℕ) (d : A) → i < length l → Every P l → P (getD l i d)
-  every-get [] i d e h = absurd (omega arith)
-  every-get (x ∷ l) zero d e h = h .0
-  every-get (x ∷ l) (suc i) d e h = every-get l i d (omega arith) (h .1)
+use Rattle.merge.proofs.Sourced.{no-row-inside}
 
 -- ---- no source, and one more
 
-pub no-source-yet : {s : Source} → Ended s → NoSources (record { rows = replicate 35 s; count = 0 })
-no-source-yet {s} e = record {
-  whole = λ img. record { wide = length-replicate 35 s; few = omega arith; inside = every-replicate (Inside img) 35 s (ended-inside e) };
-  none-yet = refl;
-}
+pub no-source-yet : (s : Source) → NoSources (record { rows = replicate 35 s; count = 0 })
+no-source-yet s = record { whole = record { wide = length-replicate 35 s; few = omega arith }; none-yet = refl }
 
 map-snoc : {A B : Type 0} (f : A → B) (l : List A) (x : A) → map f (l ++ (x ∷ [])) ≡ map f l ++ (f x ∷ [])
 map-snoc f [] x = refl
 map-snoc f (a ∷ l) x = rw (map-snoc f l x)
 
-module _ {img : List ℕ} {all : Sources} (w : Whole img all) (h : all .count < 35) where
-  pub pushed-whole : {s : Source} → Inside img s → Whole img (withSource all s)
-  pushed-whole {s} i = record { wide = rw length-set (w .wide); few = omega arith; inside = every-set (Inside img) (all .rows) (all .count) s (w .inside) i }
+module _ {all : Sources} (w : Whole all) (h : all .count < 35) where
+  pub pushed-whole : (s : Source) → Whole (withSource all s)
+  pushed-whole s = record { wide = rw length-set (w .wide); few = omega arith }
 
-  pub pushed-sources : (s : Source) → sourcesOf img (withSource all s) ≡ sourcesOf img all ++ (sourceRows img s ∷ [])
-  pushed-sources s =
+  pub pushed-sources : (img : List ℕ) (s : Source) → sourcesOf img (withSource all s) ≡ sourcesOf img all ++ (sourceRows img s ∷ [])
+  pushed-sources img s =
       let wide = w .wide in
       rw (add-one, take-suc-set (all .rows) (all .count) s (omega arith)) (map-snoc (sourceRows img) (take (all .count) (all .rows)) s)
 
 module _ {img : List ℕ} {all : Sources} where
-  pub push-none : Whole img all → Pushes img all [] all
+  pub push-none : Whole all → Pushes img all [] all
   push-none w = record { are = sym (append-nil (sourcesOf img all)); more = omega arith; whole = w }
 
-  pub push-one : {u : Under} {p : ℕ} {s : Source} {r : Sources} → Whole img all → all .count < 35 → ListOf img u p s → r ≡ withSource all s → Pushes img all (listRows img u p ∷ []) r
+  pub push-one : {u : Under} {p : ℕ} {s : Source} {r : Sources} → Whole all → all .count < 35 → ListOf img u p s → r ≡ withSource all s → Pushes img all (listRows img u p ∷ []) r
   push-one {u} {p} {s} {r} w h l e =
-      rw e (record { are = pushed-sources w h s ∙ rw (l .are); more = omega arith; whole = pushed-whole w h (l .inside) })
+      rw e (record { are = pushed-sources w h img s ∙ rw (l .are); more = omega arith; whole = pushed-whole w h s })
 
   pub push-both : {over : Sources} {xs ys : List (List Decided)} {r : Sources} → Pushes img all xs over → Pushes img over ys r → Pushes img all (xs ++ ys) r
   push-both {over} {xs} {ys} p q = record {
@@ -74,82 +55,99 @@ module _ {img : List ℕ} {all : Sources} where
     whole = q .whole;
   }
 
-pub push-two : {img : List ℕ} {all over : Sources} {u v : Under} {p q : ℕ} {s t : Source} {r : Sources} → Whole img all → all .count < 34 → ListOf img u p s → ListOf img v q t → over ≡ withSource all s → r ≡ withSource over t
+pub push-two : {img : List ℕ} {all over : Sources} {u v : Under} {p q : ℕ} {s t : Source} {r : Sources} → Whole all → all .count < 34 → ListOf img u p s → ListOf img v q t → over ≡ withSource all s → r ≡ withSource over t
     → Pushes img all (listRows img u p ∷ (listRows img v q ∷ [])) r
 push-two w h l k e d =
     let o = push-one w (omega arith) l e in
     push-both o (push-one (o .whole) (omega (arith, o .more)) k d)
 
--- ---- of two sources
+-- ---- of two rows
 
-module _ {img : List ℕ} {a b : Source} where
-  pub upper-none : a .left ≡ 0 → Upper img a b b
+module _ {img : List ℕ} {a b : Head} where
+  pub upper-none : a .more ≡ false → Upper img a b b
   upper-none e = record { is = rw e; inside = λ x y. y }
 
-  module _ (h : a .left ≡ 0 → ⊥) where
-    pub upper-alone : b .left ≡ 0 → Upper img a b a
-    upper-alone e = record { is = rw (source-first img a h, e); inside = λ x y. x }
+  module _ (h : a .more ≡ true) where
+    pub upper-alone : b .more ≡ false → Upper img a b a
+    upper-alone e = record { is = rw (h, e); inside = λ x y. x }
 
-    module _ (k : b .left ≡ 0 → ⊥) {o : Ordering} {n : List ℕ} (d : o ≡ byBytes .cmp (part img (a .start) (a .length)) n) (e : n ≡ part img (b .start) (b .length)) where
+    module _ (k : b .more ≡ true) {o : Ordering} {n : List ℕ} (d : o ≡ byBytes .cmp (part img (a .start) (a .length)) n) (e : n ≡ part img (b .start) (b .length)) where
       pub upper-less : o ≡ Less → Upper img a b a
-      upper-less g = record { is = rw (source-first img a h, source-first img b k, ← e, ← d, g); inside = λ x y. x }
+      upper-less g = record { is = rw (h, k, ← e, ← d, g); inside = λ x y. x }
 
       pub upper-equal : o ≡ Equal → Upper img a b a
-      upper-equal g = record { is = rw (source-first img a h, source-first img b k, ← e, ← d, g); inside = λ x y. x }
+      upper-equal g = record { is = rw (h, k, ← e, ← d, g); inside = λ x y. x }
 
       pub upper-greater : o ≡ Greater → Upper img a b b
-      upper-greater g = record { is = rw (source-first img a h, source-first img b k, ← e, ← d, g); inside = λ x y. y }
+      upper-greater g = record { is = rw (h, k, ← e, ← d, g); inside = λ x y. y }
 
 -- ---- past a name
 
-module _ {img : List ℕ} {s : Source} {start size : ℕ} where
-  pub passed-none : s .left ≡ 0 → Passed img s start size s
+module _ {img : List ℕ} {s : Source} {start size : ℕ} {a : Head} (h : HeadOf img (s .what) (s .left) (s .at) a) where
+  pub passed-none : a .more ≡ false → Passed img s start size s
   unfolding pass
-  passed-none e = record { is = rw e; inside = λ x. x }
+  passed-none e =
+      let z : sourceRows img s ≡ [] = rw e at (h .are) in
+      record { is = rw z }
 
-  module _ (h : s .left ≡ 0 → ⊥) {o : Ordering} {n : List ℕ} (d : o ≡ byBytes .cmp (part img start size) n) (e : n ≡ part img (s .start) (s .length)) where
+  module _ (k : a .more ≡ true) {o : Ordering} {n : List ℕ} (d : o ≡ byBytes .cmp (part img start size) n) (e : n ≡ part img (a .start) (a .length)) where
     pub passed-less : o ≡ Less → Passed img s start size s
     unfolding pass
-    passed-less g = record { is = rw (source-first img s h, ← e, ← d, g); inside = λ x. x }
+    passed-less g =
+        let z : sourceRows img s ≡ rowAt img a ∷ rowsFrom img (s .what) (s .left - 1) (a .next) = rw k at (h .are) in
+        record { is = rw (z, ← e, ← d, g) }
 
     pub passed-greater : o ≡ Greater → Passed img s start size s
     unfolding pass
-    passed-greater g = record { is = rw (source-first img s h, ← e, ← d, g); inside = λ x. x }
+    passed-greater g =
+        let z : sourceRows img s ≡ rowAt img a ∷ rowsFrom img (s .what) (s .left - 1) (a .next) = rw k at (h .are) in
+        record { is = rw (z, ← e, ← d, g) }
 
-    pub passed-equal : o ≡ Equal → {r : Source} → RowsOf img (s .what) (s .left - 1) (s .next) r → Passed img s start size r
+    pub passed-equal : o ≡ Equal → Passed img s start size (record { at = a .next; left = s .left - 1; what = s .what })
     unfolding pass
-    passed-equal g w = record { is = rw (w .are, source-first img s h, ← e, ← d, g); inside = λ x. w .inside }
+    passed-equal g =
+        let z : sourceRows img s ≡ rowAt img a ∷ rowsFrom img (s .what) (s .left - 1) (a .next) = rw k at (h .are) in
+        record { is = rw (z, ← e, ← d, g) }
 
 -- ---- the least name: from i on it is that of best
 
-pub record Best (img : List ℕ) (all : Sources) (i : ℕ) (best : Source) : Type 0 where
+pub record Best (img : List ℕ) (all : Sources) (i : ℕ) (best : Head) : Type 0 where
   pub low : i ≤ all .count
-  pub finds : least byBytes (map (sourceRows img) (drop i (take (all .count) (all .rows)))) ≡ first byBytes (sourceRows img best)
+  pub finds : least byBytes (map (sourceRows img) (drop i (take (all .count) (all .rows)))) ≡ headRow img best
   pub inside : Inside img best
 
 -- what is left starts with the source at i
 pub source-here : (l : List Source) (n i : ℕ) (d : Source) → i < n → n ≤ length l → drop i (take n l) ≡ getD l i d ∷ drop (suc i) (take n l)
 source-here l n i d h k = drop-cons (take n l) i d (rw (length-take-le n l k) h) ∙ rw getD-take
 
-module _ {img : List ℕ} {all : Sources} (w : Whole img all) {best : Source} where
-  pub best-none : Ended best → Best img all (all .count) best
+-- the row that stands first
+first-is : {img : List ℕ} {s : Source} {h : Head} → HeadOf img (s .what) (s .left) (s .at) h → first byBytes (sourceRows img s) ≡ headRow img h
+first-is {img} {s} {h} d = go (h .more) _ (d .are)
+  where
+    go : (b : Bool) (l : List Decided) → sourceRows img s ≡ rowsIfMore b (rowAt img h) l → first byBytes (sourceRows img s) ≡ rowIf b (rowAt img h)
+    go true l e = rw e
+    go false l e = rw e
+
+module _ {img : List ℕ} {all : Sources} (w : Whole all) {best : Head} where
+  pub best-none : NoRow best → Best img all (all .count) best
   unfolding least
   best-none e =
       let wide = w .wide in
       let few = w .few in
       let z : drop (all .count) (take (all .count) (all .rows)) ≡ [] = drop-of-length-le _ {i = all .count} (rw (length-take-le (all .count) (all .rows) (omega arith)) (omega arith)) in
-      record { low = omega arith; finds = rw (z, e .none-left); inside = ended-inside e }
+      record { low = omega arith; finds = rw (z, e .none-there); inside = no-row-inside e }
 
-  best-step : (j : ℕ) (d : Source) {r : Source} → Best img all (suc j) best → Upper img (getD (all .rows) j d) best r → Best img all j r
+  best-step : (j : ℕ) (d : Source) {h r : Head} → Best img all (suc j) best → HeadOf img (getD (all .rows) j d .what) (getD (all .rows) j d .left) (getD (all .rows) j d .at) h → Upper img h best r → Best img all j r
   unfolding least
-  best-step j d b f =
+  best-step j d b f u =
       let wide = w .wide in
       let few = w .few in
       let low = b .low in
-      record { low = omega arith; finds = rw (source-here (all .rows) (all .count) j d (omega arith) (omega arith), b .finds) (f .is); inside = f .inside (every-get (Inside img) (all .rows) j d (omega arith) (w .inside)) (b .inside) }
+      let z = first-is {s = getD (all .rows) j d} f in
+      record { low = omega arith; finds = rw (source-here (all .rows) (all .count) j d (omega arith) (omega arith), b .finds, z) (u .is); inside = u .inside (f .inside) (b .inside) }
 
-  pub best-more : {i : ℕ} (d : Source) {r : Source} → Best img all i best → 0 < i → Upper img (getD (all .rows) (i - 1) d) best r → Best img all (i - 1) r
-  best-more {i} d b h f = best-step (i - 1) d (let z : i ≡ suc (i - 1) = omega arith in rw z at b) f
+  pub best-more : {i : ℕ} (d : Source) {h r : Head} → Best img all i best → 0 < i → HeadOf img (getD (all .rows) (i - 1) d .what) (getD (all .rows) (i - 1) d .left) (getD (all .rows) (i - 1) d .at) h → Upper img h best r → Best img all (i - 1) r
+  best-more {i} d b h f u = best-step (i - 1) d (let z : i ≡ suc (i - 1) = omega arith in rw z at b) f u
 
   pub best-all : {i : ℕ} → Best img all i best → i ≤ 0 → Least img all best
   best-all {i} b h = let z : i ≡ 0 = omega arith in record { is = rw z at (b .finds); inside = b .inside }
@@ -188,11 +186,11 @@ module _ (img : List ℕ) (k : Text) where
 pub record Passing (img : List ℕ) (all : Sources) (start size : ℕ) (out : Sources) (i : ℕ) : Type 0 where
   pub low : i ≤ all .count
   pub count : out .count ≡ all .count
-  pub whole : Whole img out
+  pub whole : Whole out
   pub are : map (sourceRows img) (out .rows) ≡ passTo i (part img start size) (map (sourceRows img) (all .rows))
 
 module _ {img : List ℕ} {all : Sources} {start size : ℕ} where
-  pub passing-none : Whole img all → Passing img all start size all 0
+  pub passing-none : Whole all → Passing img all start size all 0
   unfolding passTo
   passing-none w = record { low = omega arith; count = refl; whole = w; are = refl }
 
@@ -206,7 +204,7 @@ module _ {img : List ℕ} {all : Sources} {start size : ℕ} where
         record {
           low = omega arith;
           count = same;
-          whole = record { wide = rw length-set wide; few = few; inside = every-set (Inside img) (out .rows) i r (g .whole .inside) (w .inside (every-get (Inside img) (out .rows) i d (omega arith) (g .whole .inside))) };
+          whole = record { wide = rw length-set wide; few = few };
           are = rw add-one (pass-one img (part img start size) (out .rows) i (map (sourceRows img) (all .rows)) r d (omega arith) (g .are) (w .is));
         }
 

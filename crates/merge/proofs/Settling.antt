@@ -12,16 +12,15 @@ use borrow.Author.Tests.{lt-ltb, le-ltb}
 use Rattle.wire.specs.Orders.{byBytes}
 use Rattle.wire.specs.Reading.{part}
 use Rattle.merge.specs.Pile.{passAll, total, least, decisions}
-use Rattle.merge.specs.Sources.{rowAt, sourceRows}
+use Rattle.merge.specs.Sources.{rowAt}
 use Rattle.merge.specs.Merges.{sourcesOf, Least, PassedAll, Ready, givenBy, plainRow, decidedRows, mergeRows, Settles, countOf}
 use Rattle.nodes.specs.declared.part.Part.{Part}
-use Rattle.merge.specs.declared.source.Source.{Source}
+use Rattle.merge.specs.declared.source.Head.{Head}
 use Rattle.merge.specs.declared.merge.Sources.{Sources}
 use Rattle.merge.specs.declared.merge.Merge.{Merge}
 use Rattle.merge.specs.declared.merge.Counted.the-variants as C
 use Rattle.merge.proofs.Piles.{ascend-pass}
 use Rattle.merge.proofs.Unite.{decisions-end, decisions-step, decisions-fewer}
-use Rattle.merge.proofs.Sourced.{source-first}
 
 -- how many rows are left
 abbrev pub leftOf : List ℕ → Sources → ℕ
@@ -35,16 +34,16 @@ pub record Settling (img : List ℕ) (all rest : Sources) : Type 0 where
 pub settling-none : {img : List ℕ} {all : Sources} → Ready img all → Settling img all all
 settling-none r = record { same = refl; ready = r }
 
-module _ {img : List ℕ} {all rest : Sources} (g : Settling img all rest) {best : Source} (l : Least img rest best) where
-  pub settled-none : {v : Part} → best .left ≡ 0 → Settles img all (record { all = rest; more = false; start = 0; «length» = 0; inode = 0; value = v })
+module _ {img : List ℕ} {all rest : Sources} (g : Settling img all rest) {best : Head} (l : Least img rest best) where
+  pub settled-none : {v : Part} → best .more ≡ false → Settles img all (record { all = rest; more = false; start = 0; «length» = 0; inode = 0; value = v })
   settled-none e =
       let n : least byBytes (sourcesOf img rest) ≡ none = rw e at (l .is) in
       let d = g .same ∙ decisions-end byBytes (sourcesOf img rest) n in
       record { gives = d; rows = ap (map plainRow) d; ready = g .ready }
 
-  module _ (h : best .left ≡ 0 → ⊥) {next : Sources} (p : PassedAll img rest (best .start) (best .length) next) where
+  module _ (h : best .more ≡ true) {next : Sources} (p : PassedAll img rest (best .start) (best .length) next) where
     found : least byBytes (sourcesOf img rest) ≡ some (rowAt img best)
-    found = rw (source-first img best h) at (l .is)
+    found = rw h at (l .is)
 
     next-ready : Ready img next
     next-ready = record { whole = p .whole; ascend = rw (p .are) (ascend-pass byBytes (part img (best .start) (best .length)) (sourcesOf img rest) (g .ready .ascend)) }

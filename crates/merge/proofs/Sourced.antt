@@ -31,7 +31,8 @@ use Rattle.nodes.specs.declared.part.Part.{Part}
 use Rattle.nodes.proofs.Values.{reads-made}
 use Rattle.rules.specs.Changes.{mapIf}
 use Rattle.merge.specs.declared.source.Source.{Source}
-use Rattle.merge.specs.Sources.{Given, choice, decided, chosen, chosenRead, isSet, valueOf, rowsIf, rowsFrom, rowAt, rowsLeft, sourceRows, Chooses, Ended, Inside, RowsOf, ListOf}
+use Rattle.merge.specs.declared.source.Head.{Head}
+use Rattle.merge.specs.Sources.{Given, Decided, choice, decided, chosen, chosenRead, isSet, valueOf, rowsIf, rowsFrom, rowAt, Chooses, Ended, NoRow, Inside, HeadOf, ListOf}
 
 -- ---- what stands under a name
 
@@ -70,20 +71,22 @@ unfolding rowsFrom
 rows-first img u zero p h = absurd (h refl)
 rows-first img u (suc n) p h = let z : suc n - 1 ≡ n = omega arith in rw z
 
-pub source-first : (img : List ℕ) (s : Source) → (s .left ≡ 0 → ⊥) → sourceRows img s ≡ rowAt img s ∷ rowsFrom img (s .what) (s .left - 1) (s .next)
-source-first img s h = go (s .left) h
-  where
-    go : (n : ℕ) → (n ≡ 0 → ⊥) → rowsLeft img s n ≡ rowAt img s ∷ rowsFrom img (s .what) (n - 1) (s .next)
-    go zero h = absurd (h refl)
-    go (suc n) h = let z : suc n - 1 ≡ n = omega arith in rw z
+pub no-row-inside : {img : List ℕ} {h : Head} → NoRow h → Inside img h
+no-row-inside d = record { ends = omega (arith, d .no-name) }
 
-pub ended-inside : {img : List ℕ} {s : Source} → Ended s → Inside img s
-ended-inside d = record { ends = omega (arith, d .no-name) }
-
-module _ {img : List ℕ} {u : Under} {n p : ℕ} {s : Source} where
-  pub from-none : n ≡ 0 → Ended s → RowsOf img u n p s
+module _ {img : List ℕ} {u : Under} {n p : ℕ} {h : Head} where
+  pub head-none : n ≡ 0 → NoRow h → HeadOf img u n p h
   unfolding rowsFrom
-  from-none e d = record { are = rw (e, d .none-left); inside = ended-inside d }
+  head-none e d = record { are = rw (e, d .none-there); inside = no-row-inside d }
+
+  -- a row that stands first is one of those left
+  pub head-some : HeadOf img u n p h → h .more ≡ true → 1 ≤ n
+  unfolding rowsFrom
+  head-some d e = go n _ (rw e at (d .are))
+    where
+      go : (n : ℕ) (l : List Decided) → rowsFrom img u n p ≡ rowAt img h ∷ l → 1 ≤ n
+      go zero l f = absurd (omega (arith, ap length f))
+      go (suc m) l f = omega arith
 
 module _ (img : List ℕ) (u : Under) (p start size : ℕ) where
   -- a row is the name and what stands under it
@@ -117,11 +120,11 @@ module _ (img : List ℕ) (u : Under) (p start size : ℕ) where
 
 module _ {img : List ℕ} {u : Under} {n p start size : ℕ} {named : Cursor} (h : n ≡ 0 → ⊥) (t : AnswersPart img (text-read 1 255) (At p) start size named)
     {b : Bool} {i : ℕ} {value : Part} {next : Cursor} (v : Chooses img u named b i value next) where
-  pub from-stop : {f : Fault} {s : Source} → next ≡ Stop f → Ended s → RowsOf img u n p s
-  from-stop {f} e d = record { are = rw (d .none-left, rows-first img u n p h, row-stop img u p start size named (chosen b (i, textAt img value)) f (t .reads) (rw e at (v .reads))); inside = ended-inside d }
+  pub head-stop : {f : Fault} {s : Head} → next ≡ Stop f → NoRow s → HeadOf img u n p s
+  head-stop {f} e d = record { are = rw (d .none-there, rows-first img u n p h, row-stop img u p start size named (chosen b (i, textAt img value)) f (t .reads) (rw e at (v .reads))); inside = no-row-inside d }
 
-  pub from-row : {q : ℕ} → next ≡ At q → RowsOf img u n p (record { what = u; left = n; start = start; «length» = size; given = b; inode = i; value = value; next = q })
-  from-row {q} e =
+  pub head-row : {q : ℕ} → next ≡ At q → HeadOf img u n p (record { more = true; start = start; «length» = size; given = b; inode = i; value = value; next = q })
+  head-row {q} e =
       let d : Reads img (chosenRead u) named (chosen b (i, textAt img value)) (At q) = rw e at (v .reads) in
       let k = part img start size in
       let r = row-read img u p start size named (chosen b (i, textAt img value)) q (t .reads) d in
@@ -129,16 +132,17 @@ module _ {img : List ℕ} {u : Under} {n p start size : ℕ} {named : Cursor} (h
       let long : 1 ≤ length w = simp length-append (omega (arith, number-one (length k))) in
       let z : q ≡ p + length w = read-on img (name then under u) (k, r .0) p q long (d .within) (r .2) in
       let y = name-start img u p start size named (chosen b (i, textAt img value)) q t d in
-      record { are = source-first img _ h ∙ rw (rows-first img u n p h, r .2, r .1, ← y, ← z); inside = record { ends = t .inside } }
+      record { are = rw (rows-first img u n p h, r .2, r .1, ← y, ← z); inside = record { ends = t .inside } }
 
 -- ---- a list, its count first
 
-module _ {img : List ℕ} {u : Under} {n p : ℕ} {next : Cursor} {s : Source} (h : Answers img (number-read lastCount) (At p) 0 n next) where
-  pub list-stop : {f : Fault} → next ≡ Stop f → Ended s → ListOf img u p s
-  list-stop e d = let z = rw e at (h .reads .same) in record { are = rw (z, d .none-left); inside = ended-inside d }
+module _ {img : List ℕ} {u : Under} {n p : ℕ} {next : Cursor} (h : Answers img (number-read lastCount) (At p) 0 n next) where
+  pub list-stop : {s : Source} {f : Fault} → next ≡ Stop f → Ended s → ListOf img u p s
+  unfolding rowsFrom
+  list-stop e d = let z = rw e at (h .reads .same) in record { are = rw (z, d .none-left) }
 
-  pub list-rows : {q : ℕ} → next ≡ At q → RowsOf img u n q s → ListOf img u p s
-  list-rows {q} e r =
+  pub list-rows : {q : ℕ} → next ≡ At q → ListOf img u p (record { at = q; left = n; what = u })
+  list-rows {q} e =
       let g : Reads img (number-read lastCount) (At p) n (At q) = rw e at (h .reads) in
       let z : q ≡ p + length (numberBytes n) = read-on img (numberTo lastCount refl) n p q (number-one n) (g .within) (g .same) in
-      record { are = r .are ∙ rw (g .same, z); inside = r .inside }
+      record { are = rw (g .same, z) }

@@ -1,12 +1,12 @@
 -- Sources by value, and what merging them promises.
 use mathlib.Core.Path.{_≡_}
+use mathlib.Core.Option.{Option, none, some}
 use mathlib.Core.Bool.{Bool, true, false, cond}
 use lib.Dec.{ltb}
 use mathlib.Core.List.{List, [], _∷_, _++_, map}
 use Prim.Native.Nat.{ℕ, _+_, _≤_}
 use lib.ListN.{length, take, set}
 use Rattle.wire.specs.Orders.{byBytes}
-use Rattle.wire.specs.Lists.{Every}
 use Rattle.wire.specs.Reading.{part}
 use Rattle.image.specs.Meaning.{Text}
 use Rattle.image.specs.declared.name.Under.{Under}
@@ -14,9 +14,10 @@ use Rattle.nodes.specs.Options.{textAt}
 use Rattle.nodes.specs.declared.option.OptionPart.{OptionPart}
 use Rattle.nodes.specs.declared.option.OptionPart.the-variants as P
 use Rattle.rules.specs.ReadCalls.{Row, rowOf}
-use Rattle.merge.specs.Pile.{pass, passAll, Ascend, first, upper, least, decisions}
-use Rattle.merge.specs.Sources.{Given, Decided, listRows, sourceRows, Inside}
+use Rattle.merge.specs.Pile.{pass, passAll, Ascend, upper, least, decisions}
+use Rattle.merge.specs.Sources.{Given, Decided, listRows, sourceRows, rowAt, rowsIfMore, Inside}
 use Rattle.merge.specs.declared.source.Source.{Source}
+use Rattle.merge.specs.declared.source.Head.{Head}
 use Rattle.merge.specs.declared.merge.Sources.{Sources}
 use Rattle.merge.specs.declared.merge.Merge.{Merge}
 use Rattle.merge.specs.declared.merge.Counted.{Counted}
@@ -26,14 +27,13 @@ use Rattle.merge.specs.declared.merge.Counted.the-variants as C
 abbrev pub sourcesOf : List ℕ → Sources → List (List Decided)
 sourcesOf img all = map (sourceRows img) (take (all .count) (all .rows))
 
--- the array is whole, and each name in it is in the image
-pub record Whole (img : List ℕ) (all : Sources) : Type 0 where
+-- the array is whole
+pub record Whole (all : Sources) : Type 0 where
   pub wide : length (all .rows) ≡ 35
   pub few : all .count ≤ 35
-  pub inside : Every (Inside img) (all .rows)
 
 pub record NoSources (r : Sources) : Type 0 where
-  pub whole : (img : List ℕ) → Whole img r
+  pub whole : Whole r
   pub none-yet : r .count ≡ 0
 
 abbrev pub withSource : Sources → Source → Sources
@@ -48,29 +48,36 @@ listsIf img u P.None = []
 pub record Pushes (img : List ℕ) (all : Sources) (lists : List (List Decided)) (r : Sources) : Type 0 where
   pub are : sourcesOf img r ≡ sourcesOf img all ++ lists
   pub more : r .count ≡ all .count + length lists
-  pub whole : Whole img r
+  pub whole : Whole r
 
-pub record Upper (img : List ℕ) (a b r : Source) : Type 0 where
-  pub is : upper byBytes (first byBytes (sourceRows img a)) (first byBytes (sourceRows img b)) ≡ first byBytes (sourceRows img r)
+-- a row, if there is one
+abbrev pub rowIf : Bool → Decided → Option Decided
+rowIf true r = some r
+rowIf false r = none
+
+abbrev pub headRow : List ℕ → Head → Option Decided
+headRow img h = rowIf (h .more) (rowAt img h)
+
+pub record Upper (img : List ℕ) (a b r : Head) : Type 0 where
+  pub is : upper byBytes (headRow img a) (headRow img b) ≡ headRow img r
   pub inside : Inside img a → Inside img b → Inside img r
 
-pub record Least (img : List ℕ) (all : Sources) (r : Source) : Type 0 where
-  pub is : least byBytes (sourcesOf img all) ≡ first byBytes (sourceRows img r)
+pub record Least (img : List ℕ) (all : Sources) (r : Head) : Type 0 where
+  pub is : least byBytes (sourcesOf img all) ≡ headRow img r
   pub inside : Inside img r
 
 pub record Passed (img : List ℕ) (s : Source) (start size : ℕ) (r : Source) : Type 0 where
   pub is : sourceRows img r ≡ pass byBytes (part img start size) (sourceRows img s)
-  pub inside : Inside img s → Inside img r
 
 pub record PassedAll (img : List ℕ) (all : Sources) (start size : ℕ) (r : Sources) : Type 0 where
   pub are : sourcesOf img r ≡ passAll byBytes (part img start size) (sourcesOf img all)
-  pub whole : Whole img r
+  pub whole : Whole r
 
 -- ---- the rows, one after the other
 
 -- each source rises
 pub record Ready (img : List ℕ) (all : Sources) : Type 0 where
-  pub whole : Whole img all
+  pub whole : Whole all
   pub ascend : Ascend byBytes (sourcesOf img all)
 
 -- what the sources decide: the names that are given
@@ -89,10 +96,6 @@ rowOfMerge m = record { start = m .start; «length» = m .length; inode = m .ino
 
 abbrev pub givenOfMerge : List ℕ → Merge → Text × (ℕ × Given)
 givenOfMerge img m = (part img (m .start) (m .length), (m .start, (m .inode, textAt img (m .value))))
-
-abbrev pub rowsIfMore : {A : Type 0} → Bool → A → List A → List A
-rowsIfMore true r l = r ∷ l
-rowsIfMore false r l = []
 
 -- the row that a merge is at, and those that follow
 abbrev pub mergeRows : List ℕ → Merge → List Row

@@ -4,7 +4,7 @@ use mathlib.Core.Path.{_≡_}
 use mathlib.Core.Option.{Option, none, some}
 use mathlib.Core.Bool.{Bool, true, false}
 use mathlib.Core.List.{List, [], _∷_, _++_}
-use Prim.Native.Nat.{ℕ, zero, suc, _+_, _≤_}
+use Prim.Native.Nat.{ℕ, zero, suc, _+_, _-_, _≤_}
 use lib.ListN.{length, drop}
 use Rattle.wire.specs.Parse.{Parsed, fault, got, bind}
 use Rattle.wire.specs.Combinators.{_then_}
@@ -23,6 +23,7 @@ use Rattle.nodes.specs.declared.option.OptionPart.{OptionPart}
 use Rattle.nodes.specs.declared.option.OptionPart.the-variants as P
 use Rattle.rules.specs.Changes.{mapIf}
 use Rattle.merge.specs.declared.source.Source.{Source}
+use Rattle.merge.specs.declared.source.Head.{Head}
 
 -- what a name is given: an inode; a value
 abbrev pub Given : Type 0
@@ -73,16 +74,17 @@ rowsFrom img u (suc n) p =
 abbrev pub listRows : List ℕ → Under → ℕ → List Decided
 listRows img u p = rowsIf (number-read lastCount (drop p img)) (λ n. rowsFrom img u n (p + length (numberBytes n)))
 
--- the rows of a source: the one that it is at, and those that follow
-abbrev pub rowAt : List ℕ → Source → Decided
-rowAt img s = (part img (s .start) (s .length), mapIf (λ g. (s .start, g)) (chosen (s .given) (s .inode, textAt img (s .value))))
-
-abbrev pub rowsLeft : List ℕ → Source → ℕ → List Decided
-rowsLeft img s zero = []
-rowsLeft img s (suc n) = rowAt img s ∷ rowsFrom img (s .what) n (s .next)
-
+-- the rows of a source
 abbrev pub sourceRows : List ℕ → Source → List Decided
-sourceRows img s = rowsLeft img s (s .left)
+sourceRows img s = rowsFrom img (s .what) (s .left) (s .at)
+
+-- the row that stands first
+abbrev pub rowAt : List ℕ → Head → Decided
+rowAt img h = (part img (h .start) (h .length), mapIf (λ g. (h .start, g)) (chosen (h .given) (h .inode, textAt img (h .value))))
+
+abbrev pub rowsIfMore : {A : Type 0} → Bool → A → List A → List A
+rowsIfMore true r l = r ∷ l
+rowsIfMore false r l = []
 
 -- ---- what the readers of a source promise
 
@@ -91,16 +93,19 @@ pub record Chooses (img : List ℕ) (u : Under) (at : Cursor) (given : Bool) (in
 
 pub record Ended (s : Source) : Type 0 where
   pub none-left : s .left ≡ 0
-  pub no-name : s .start + s .length ≡ 0
+
+pub record NoRow (h : Head) : Type 0 where
+  pub none-there : h .more ≡ false
+  pub no-name : h .start + h .length ≡ 0
 
 -- the name is in the image
-pub record Inside (img : List ℕ) (s : Source) : Type 0 where
-  pub ends : s .start + s .length ≤ length img
+pub record Inside (img : List ℕ) (h : Head) : Type 0 where
+  pub ends : h .start + h .length ≤ length img
 
-pub record RowsOf (img : List ℕ) (u : Under) (n p : ℕ) (s : Source) : Type 0 where
-  pub are : sourceRows img s ≡ rowsFrom img u n p
-  pub inside : Inside img s
+-- the first of the n rows from p on, and those that follow
+pub record HeadOf (img : List ℕ) (u : Under) (n p : ℕ) (h : Head) : Type 0 where
+  pub are : rowsFrom img u n p ≡ rowsIfMore (h .more) (rowAt img h) (rowsFrom img u (n - 1) (h .next))
+  pub inside : Inside img h
 
 pub record ListOf (img : List ℕ) (u : Under) (p : ℕ) (s : Source) : Type 0 where
   pub are : sourceRows img s ≡ listRows img u p
-  pub inside : Inside img s

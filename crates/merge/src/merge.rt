@@ -5,11 +5,13 @@ ghost use mathlib.Core.Path.{_≡_};
 ghost use mathlib.Core.List.{[], _∷_};
 ghost use Rattle.merge.specs.Sources.{listRows};
 ghost use Rattle.merge.specs.Merges.{Whole, NoSources, withSource, listsIf, Pushes, Upper, Least, Passed, PassedAll, Ready, mergeRows, Settles, countOf};
+use crate::source::Head;
 use crate::source::Source;
+use crate::source::head_of;
+use crate::source::no_head;
 use crate::source::no_source;
 use crate::source::no_value;
 use crate::source::source_at;
-use crate::source::source_from;
 use image::name::Under;
 use nodes::option::OptionPart;
 use nodes::part::Part;
@@ -61,7 +63,7 @@ pub fn push_source(all: Sources, source: Source) -> Sources
 
 // The list at a part of the image, beneath the others.
 pub fn push_list(img: &[u8], all: Sources, list: Part, what: Under) -> Sources
-    requires { ⌜ Whole (now img) all × (all .count < 35) ⌝ }
+    requires { ⌜ Whole all × (all .count < 35) ⌝ }
     ensures { λ r. ⌜ Pushes (now (img .entry)) all (listRows (now (img .entry)) what (list .start) ∷ []) r ⌝ }
 {
     push_source(all, source_at(img, list.start, what))
@@ -69,7 +71,7 @@ pub fn push_list(img: &[u8], all: Sources, list: Part, what: Under) -> Sources
 
 // The same, if there is a list.
 pub fn push_list_if(img: &[u8], all: Sources, option: OptionPart, what: Under) -> Sources
-    requires { ⌜ Whole (now img) all × (all .count < 35) ⌝ }
+    requires { ⌜ Whole all × (all .count < 35) ⌝ }
     ensures { λ r. ⌜ Pushes (now (img .entry)) all (listsIf (now (img .entry)) what option) r ⌝ }
 {
     match option {
@@ -78,38 +80,38 @@ pub fn push_list_if(img: &[u8], all: Sources, option: OptionPart, what: Under) -
     }
 }
 
-// Of two sources the one whose name is less; of equal names the upper.
-fn upper(img: &[u8], over: Source, under: Source) -> Source
+// Of two rows the one whose name is less; of equal names the upper.
+fn upper(img: &[u8], over: Head, under: Head) -> Head
     ensures { λ r. ⌜ Upper (now (img .entry)) over under r ⌝ }
 {
-    if over.left == 0 {
-        return under;
-    }
-    if under.left == 0 {
+    if over.more {
+        if under.more {
+            return match compare_part(
+                img,
+                over.start,
+                over.length,
+                part(img, under.start, under.length),
+            ) {
+                Ordering::Less => over,
+                Ordering::Equal => over,
+                Ordering::Greater => under,
+            };
+        }
         return over;
     }
-    match compare_part(
-        img,
-        over.start,
-        over.length,
-        part(img, under.start, under.length),
-    ) {
-        Ordering::Less => over,
-        Ordering::Equal => over,
-        Ordering::Greater => under,
-    }
+    under
 }
 
-// The topmost of the sources that have the least name.
-fn least(img: &[u8], all: Sources) -> Source
-    requires { ⌜ Whole (now img) all ⌝ }
+// The least name that stands first, as the topmost of the sources that have it says.
+fn least(img: &[u8], all: Sources) -> Head
+    requires { ⌜ Whole all ⌝ }
     ensures { λ r. ⌜ Least (now (img .entry)) all r ⌝ }
 {
     let mut i = all.count;
-    let mut best = no_source();
+    let mut best = no_head();
     while 0 < i {
         i -= 1;
-        best = upper(img, all.rows[i], best);
+        best = upper(img, head_of(img, all.rows[i]), best);
     }
     best
 }
@@ -118,20 +120,25 @@ fn least(img: &[u8], all: Sources) -> Source
 fn passed(img: &[u8], source: Source, start: usize, length: usize) -> Source
     ensures { λ r. ⌜ Passed (now (img .entry)) source start length r ⌝ }
 {
-    if source.left == 0 {
-        return source;
-    }
+    let head = head_of(img, source);
     let what = source.what;
-    match compare_part(img, start, length, part(img, source.start, source.length)) {
-        Ordering::Less => source,
-        Ordering::Equal => source_from(img, source.next, source.left - 1, what),
-        Ordering::Greater => source,
+    if head.more {
+        return match compare_part(img, start, length, part(img, head.start, head.length)) {
+            Ordering::Less => source,
+            Ordering::Equal => Source {
+                at: head.next,
+                left: source.left - 1,
+                what,
+            },
+            Ordering::Greater => source,
+        };
     }
+    source
 }
 
 // Moves each source past the name, if it is at it.
 fn pass_all(img: &[u8], all: Sources, start: usize, length: usize) -> Sources
-    requires { ⌜ Whole (now img) all ⌝ }
+    requires { ⌜ Whole all ⌝ }
     ensures { λ r. ⌜ PassedAll (now (img .entry)) all start length r ⌝ }
 {
     let mut out = all;
@@ -153,7 +160,19 @@ pub fn settle(img: &[u8], all: Sources) -> Merge
     loop {
         let best = least(img, rest);
         let value = best.value;
-        if best.left == 0 {
+        if best.more {
+            rest = pass_all(img, rest, best.start, best.length);
+            if best.given {
+                return Merge {
+                    all: rest,
+                    more: true,
+                    start: best.start,
+                    length: best.length,
+                    inode: best.inode,
+                    value,
+                };
+            }
+        } else {
             return Merge {
                 all: rest,
                 more: false,
@@ -161,17 +180,6 @@ pub fn settle(img: &[u8], all: Sources) -> Merge
                 length: 0,
                 inode: 0,
                 value: no_value(),
-            };
-        }
-        rest = pass_all(img, rest, best.start, best.length);
-        if best.given {
-            return Merge {
-                all: rest,
-                more: true,
-                start: best.start,
-                length: best.length,
-                inode: best.inode,
-                value,
             };
         }
     }

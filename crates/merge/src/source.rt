@@ -1,8 +1,8 @@
-// Sources of a listing: lists by name in the image, each at a row of it.
+// Sources of a listing: lists by name in the image, each at one of its rows.
 ghost use mathlib.Core.Path.{_≡_};
 ghost use Rattle.wire.specs.Reading.{cursorIn};
 ghost use Rattle.image.specs.declared.name.Under.the-variants as U;
-ghost use Rattle.merge.specs.Sources.{isSet, valueOf, Chooses, Ended, RowsOf, ListOf};
+ghost use Rattle.merge.specs.Sources.{isSet, valueOf, Chooses, Ended, NoRow, HeadOf, ListOf};
 use image::name::Under;
 use nodes::option::OptionPart;
 use nodes::option::read_maybe_text;
@@ -11,11 +11,16 @@ use wire::cursor::Cursor;
 use wire::number::read_number;
 use wire::text::read_text;
 
-// A list by name, at the first of the rows that are left. The row gives its name an inode or a value, or removes it; what follows is at
-// `next`. With no rows left, it says nothing.
+// A list by name, of which `left` rows stand from `at` on.
 pub struct Source {
+    pub at: usize,
+    pub left: u32,
     pub what: Under,
-    pub left: u64,
+}
+
+// The first row of a source, if there is one: it gives its name an inode or a value, or removes it. The rows after it are at `next`.
+pub struct Head {
+    pub more: bool,
     pub start: usize,
     pub length: usize,
     pub given: bool,
@@ -129,8 +134,17 @@ pub fn no_source() -> Source
     ensures { λ r. ⌜ Ended r ⌝ }
 {
     Source {
-        what: Under::Nothing,
+        at: 0,
         left: 0,
+        what: Under::Nothing,
+    }
+}
+
+pub fn no_head() -> Head
+    ensures { λ r. ⌜ NoRow r ⌝ }
+{
+    Head {
+        more: false,
         start: 0,
         length: 0,
         given: false,
@@ -140,22 +154,22 @@ pub fn no_source() -> Source
     }
 }
 
-// The source at the first of the `left` rows from `at` on.
-pub fn source_from(img: &[u8], at: usize, left: u64, what: Under) -> Source
-    ensures { λ r. ⌜ RowsOf (now (img .entry)) what left at r ⌝ }
+// The first row of a source.
+pub fn head_of(img: &[u8], source: Source) -> Head
+    ensures { λ r. ⌜ HeadOf (now (img .entry)) (source .what) (source .left) (source .at) r ⌝ }
 {
-    if left == 0 {
-        return no_source();
+    if source.left == 0 {
+        return no_head();
     }
-    let name = read_text(img, Cursor::At(at), 1, 255);
+    let what = source.what;
+    let name = read_text(img, Cursor::At(source.at), 1, 255);
     let named = name.next;
     let choice = read_choice(img, named, what);
     let value = choice.value;
     let end = choice.next;
     match end {
-        Cursor::At(next) => Source {
-            what,
-            left,
+        Cursor::At(next) => Head {
+            more: true,
             start: name.start,
             length: name.length,
             given: choice.given,
@@ -163,18 +177,22 @@ pub fn source_from(img: &[u8], at: usize, left: u64, what: Under) -> Source
             value,
             next,
         },
-        Cursor::Stop(_) => no_source(),
+        Cursor::Stop(_) => no_head(),
     }
 }
 
-// The source at the first row of the list at `at`.
+// The source of the list at `at`.
 pub fn source_at(img: &[u8], at: usize, what: Under) -> Source
     ensures { λ r. ⌜ ListOf (now (img .entry)) what at r ⌝ }
 {
     let count = read_number(img, Cursor::At(at), 0xFFFF_FFFF);
     let next = count.next;
     match next {
-        Cursor::At(first) => source_from(img, first, count.value, what),
+        Cursor::At(first) => Source {
+            at: first,
+            left: count.value as u32,
+            what,
+        },
         Cursor::Stop(_) => no_source(),
     }
 }

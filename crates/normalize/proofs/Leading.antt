@@ -89,12 +89,12 @@ added-lead k q m x = rw (get-map, get-start k U.Inode q m) (go (get byBytes k (s
 pub record Leading (img : List ℕ) (s : InodeLayerStack) (all : Sources) (i : ℕ) : Type 0 where
   pub low : i ≤ s .count
   pub few : all .count + 2 * i ≤ 2 * s .count
-  pub whole : Whole img all
+  pub whole : Whole all
   pub maps : List Deciding
   pub are : sourcesOf img all ≡ pileRows maps
   pub same : (k : Text) → shown (child k) img s ≡ leadOr k maps (shownUnder (child k) img s i)
 
-leads-of : {img : List ℕ} {s : InodeLayerStack} {all : Sources} → Whole img all → (maps : List Deciding) → sourcesOf img all ≡ pileRows maps
+leads-of : {img : List ℕ} {s : InodeLayerStack} {all : Sources} → Whole all → (maps : List Deciding) → sourcesOf img all ≡ pileRows maps
     → ((k : Text) → shown (child k) img s ≡ leadOr k maps none) → Leads img s all
 unfolding get
 leads-of w maps e f = record {
@@ -105,7 +105,7 @@ leads-of w maps e f = record {
 module _ {img : List ℕ} {s : InodeLayerStack} {all : Sources} where
   pub leading-start : NoSources all → Leading img s all (s .count)
   unfolding rowsOf
-  leading-start n = record { low = omega arith; few = omega (arith, n .none-yet); whole = n .whole img; maps = []; are = rw (n .none-yet); same = λ k. refl }
+  leading-start n = record { low = omega arith; few = omega (arith, n .none-yet); whole = n .whole; maps = []; are = rw (n .none-yet); same = λ k. refl }
 
   module _ (h : Stacked img s) {i : ℕ} (l : 0 < i) (g : Leading img s all i) {e : EntryDelta} (r : RecordIs img (getD (s .deltas) (i - 1) 0) e) where
     top : (k : Text) → shown (child k) img s ≡ leadOr k (g .maps) (stepChild k (entryMeant img e) (shownUnder (child k) img s (i - 1)))

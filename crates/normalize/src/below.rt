@@ -20,7 +20,7 @@ use survey::batch::InodeLayerStack;
 
 // A child lookup asks what a delta removes before what it adds.
 fn push_directory(img: &[u8], all: Sources, directory: DirectoryDelta) -> Sources
-    requires { ⌜ Whole (now img) all × (all .count < 34) ⌝ }
+    requires { ⌜ Whole all × (all .count < 34) ⌝ }
     ensures { λ r. ⌜ Pushes (now (img .entry)) all (listRows (now (img .entry)) U.Nothing (directory .removed .start) ∷ (listRows (now (img .entry)) U.Inode (directory .added .start) ∷ [])) r ⌝ }
 {
     let added = directory.added;

@@ -13,7 +13,8 @@ use borrow.Author.Tests.{ltb-false}
 use Rattle.survey.specs.declared.batch.InodeLayerStack.{InodeLayerStack}
 use Rattle.rules.specs.ReadCalls.{Row}
 use Rattle.stack.specs.Stacks.{recordsIn, nodeIn}
-use Rattle.merge.specs.Merges.{NoSources, Ready, decidedRows, rowOfMerge, rowsIfMore, mergeRows, Settles, countOf}
+use Rattle.merge.specs.Sources.{rowsIfMore}
+use Rattle.merge.specs.Merges.{NoSources, Ready, decidedRows, rowOfMerge, mergeRows, Settles, countOf}
 use Rattle.gather.specs.Gathers.{Gathers}
 use Rattle.rows.specs.Listings.{listsOf, rowsListed}
 use Rattle.rows.proofs.Decide.{gathered-rows}
@@ -31,7 +32,7 @@ use Rattle.rows.specs.declared.listing.Plan.{Plan}
 
 pub no-rows : {all : Sources} {v : Part} {a : RowsAnswer} → NoSources all
     → NoRows a (record { merge = record { all = all; more = false; start = 0; «length» = 0; inode = 0; value = v }; answer = a })
-no-rows n = record { answers = refl; none-left = λ img. refl; ready = λ img. record { whole = n .whole img; ascend = rw (n .none-yet) tt } }
+no-rows n = record { answers = refl; none-left = λ img. refl; ready = λ img. record { whole = n .whole; ascend = rw (n .none-yet) tt } }
 
 pub advanced : {img : List ℕ} {p : Plan} {m : Merge} → Settles img (p .merge .all) m → Advances img p (record { merge = m; answer = p .answer })
 advanced t = record { rows = sym (t .rows); ready = t .ready }

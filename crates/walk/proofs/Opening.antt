@@ -33,7 +33,6 @@ use Rattle.passes.specs.declared.inode.Held.the-variants as H
 use Rattle.rules.specs.Stacks.{withLive, layers}
 use Rattle.rules.proofs.MapValues.{mapRow, map-rising}
 use Rattle.merge.specs.Pile.{Ascend}
-use Rattle.merge.proofs.Merging.{every-set}
 use Rattle.change.specs.Batches.{HeadParts}
 use Rattle.change.specs.Sections.{Spans, Stands}
 use Rattle.change.specs.declared.section.Sections.{Sections}
@@ -44,7 +43,7 @@ use Rattle.walk.specs.Walks.{runsOn, sourcesOf, OverBase, withRun}
 use Rattle.walk.specs.Opens.{nodeRows, recordRows, layersOn, lead, layerBytes, layerAt, Starts, Ends, LayersOf, OpensLayers}
 use Rattle.walk.specs.declared.run.Run.{Run}
 use Rattle.walk.specs.declared.walk.Walk.{Walk}
-use Rattle.walk.proofs.Stepping.{sources-set}
+use Rattle.walk.proofs.Stepping.{every-set, sources-set}
 
 -- ---- the rows of a list that was written
 

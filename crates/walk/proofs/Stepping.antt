@@ -12,6 +12,7 @@ use lib.Seq.{take-suc, take-suc-set}
 use Rattle.wire.specs.declared.order.Ordering.{Ordering}
 use Rattle.wire.specs.declared.order.Ordering.the-variants.{Less, Equal, Greater}
 use Rattle.wire.specs.Orders.{byNumber, greater-N, says, Says, cmpN}
+use Rattle.wire.specs.Lists.{Every}
 use Rattle.wire.specs.Maps.{meet}
 use Rattle.image.specs.Meaning.{Node, Record}
 use Rattle.image.specs.NodeLayout.{node}
@@ -27,7 +28,6 @@ use Rattle.rules.proofs.PlacedStack.{records-snoc}
 use Rattle.stack.specs.Stacks.{AllRead, NodeRead}
 use Rattle.merge.specs.Pile.{firstKey, pickKey, lower, leastKey, headIf, passAll, answer}
 use Rattle.merge.proofs.Piles.{pile-step, pile-end, ascend-pass}
-use Rattle.merge.proofs.Merging.{every-replicate, every-set, every-get}
 use Rattle.walk.specs.Runs.{Piece, Row, rowsLeft, runRows, Ended, Sound, ListOf, Has, pieceAt, ReadAt, Found, Passed}
 use Rattle.walk.specs.Walks.{Pieces, orNothing, laying, topOf, runsOn, sourcesUnder, sourcesOf, stacksLeft, piecesIn, Whole, Ready, keyIf, keyOf, Lower, Least, Taken, stacksIf, Steps, OverBase}
 use Rattle.walk.specs.declared.run.Run.{Run}
@@ -35,6 +35,23 @@ use Rattle.walk.specs.declared.walk.Walk.{Walk}
 use Rattle.walk.specs.declared.walk.First.{First}
 use Rattle.walk.specs.declared.walk.Step.{Step}
 use Rattle.walk.proofs.Running.{ended-sound, has-head}
+
+-- ---- each element of an array
+
+module _ {A : Type 0} (P : A → Type 0) where
+  pub every-replicate : (n : ℕ) (a : A) → P a → Every P (replicate n a)
+  every-replicate zero a h = tt
+  every-replicate (suc n) a h = (h, every-replicate n a h)
+
+  pub every-set : (l : List A) (i : ℕ) (a : A) → Every P l → P a → Every P (set l i a)
+  every-set [] i a h k = tt
+  every-set (x ∷ l) zero a h k = (k, h .1)
+  every-set (x ∷ l) (suc i) a h k = (h .0, every-set l i a (h .1) k)
+
+  pub every-get : (l : List A) (i : ℕ) (d : A) → i < length l → Every P l → P (getD l i d)
+  every-get [] i d e h = absurd (omega arith)
+  every-get (x ∷ l) zero d e h = h .0
+  every-get (x ∷ l) (suc i) d e h = every-get l i d (omega arith) (h .1)
 
 -- ---- the lesser of two inodes
 

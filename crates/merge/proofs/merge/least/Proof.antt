@@ -6,7 +6,8 @@ use Rattle.merge.proofs.merge.least.Tie as tie
 use Rattle.merge.proofs.merge.least.Reads as reads
 use Rattle.merge.proofs.merge.least.Lts as lts
 use Rattle.merge.proofs.merge.upper.Reads as upper-reads
-use Rattle.merge.proofs.source.no_source.Reads as no-source-reads
+use Rattle.merge.proofs.source.head_of.Reads as head-of-reads
+use Rattle.merge.proofs.source.no_head.Reads as no-head-reads
 
 abbrev Inv-loop : tie.InvT-loop
 Inv-loop img all i₀ best₀ i best = Best img all i best
@@ -14,8 +15,8 @@ Inv-loop img all i₀ best₀ i best = Best img all i best
 abbrev μ-loop : tie.MeasureT-loop
 μ-loop img all i₀ best₀ i best = i
 
-no-source-requires : tie.Need-no-source-requires Inv-loop μ-loop
-no-source-requires c κs = search needs
+no-head-requires : tie.Need-no-head-requires Inv-loop μ-loop
+no-head-requires c κs = search needs
 
 loop-holds : tie.Need-loop-holds Inv-loop μ-loop
 loop-holds c = search best-none
@@ -23,11 +24,14 @@ loop-holds c = search best-none
 sub-i : tie.Need-sub-i Inv-loop μ-loop
 sub-i c = search needs
 
-mul-upper : tie.Need-mul-upper Inv-loop μ-loop
-mul-upper c = search needs
+mul-head-of : tie.Need-mul-head-of Inv-loop μ-loop
+mul-head-of c = search needs
 
-element-copy-out-upper : tie.Need-element-copy-out-upper Inv-loop μ-loop
-element-copy-out-upper c = search needs
+element-copy-out-head-of : tie.Need-element-copy-out-head-of Inv-loop μ-loop
+element-copy-out-head-of c = search needs
+
+head-of-requires : tie.Need-head-of-requires Inv-loop μ-loop
+head-of-requires c κs = search needs
 
 upper-requires : tie.Need-upper-requires Inv-loop μ-loop
 upper-requires c κs = search needs
@@ -36,7 +40,7 @@ loop-less : tie.Need-loop-less Inv-loop μ-loop
 loop-less c = search needs
 
 loop-again : tie.Need-loop-again Inv-loop μ-loop
-loop-again c = best-more (c .before .before .before .before .before .before .pre) _ (c .before .before .before .loop .inv) (omega arith) (c .upper .ensures)
+loop-again c = best-more (c .before .before .before .before .before .before .before .pre) _ (c .before .before .before .before .loop .inv) (omega arith) (c .before .head-of .ensures) (c .upper .ensures)
 
 returns : tie.Need-returns Inv-loop μ-loop
 returns c = search (best-all, arith)
@@ -47,11 +51,12 @@ least-spec =
     (tie.spec
     Inv-loop
     μ-loop
-    no-source-requires
+    no-head-requires
     loop-holds
     sub-i
-    mul-upper
-    element-copy-out-upper
+    mul-head-of
+    element-copy-out-head-of
+    head-of-requires
     upper-requires
     loop-less
     loop-again

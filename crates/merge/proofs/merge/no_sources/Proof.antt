@@ -12,7 +12,7 @@ no-source-requires c κs = search needs
 
 -- src/merge.rt:34:1
 returns : tie.Need-returns
-returns c = no-source-yet (c .no-source .ensures)
+returns c = no-source-yet _
 
 pub no-sources-spec : {M : Type 1} → statement M
 no-sources-spec = tie.close (tie.spec no-source-requires returns)

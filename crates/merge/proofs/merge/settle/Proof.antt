@@ -23,14 +23,14 @@ least-requires c κs = search needs
 no-value-requires : tie.Need-no-value-requires Inv-loop μ-loop
 no-value-requires c κs = search needs
 
-returns : tie.Need-returns Inv-loop μ-loop
-returns c = search settled-none
+returns-2 : tie.Need-returns-2 Inv-loop μ-loop
+returns-2 c = search settled-none
 
 pass-all-requires : tie.Need-pass-all-requires Inv-loop μ-loop
 pass-all-requires c κs = search needs
 
-returns-2 : tie.Need-returns-2 Inv-loop μ-loop
-returns-2 c = search settled-given
+returns : tie.Need-returns Inv-loop μ-loop
+returns c = search settled-given
 
 loop-less : tie.Need-loop-less Inv-loop μ-loop
 loop-less c = search settling-less
@@ -46,9 +46,9 @@ settle-spec =
     μ-loop
     loop-holds
     least-requires
-    no-value-requires
-    returns
     pass-all-requires
-    returns-2
+    returns
     loop-less
-    loop-again)
+    loop-again
+    no-value-requires
+    returns-2)

@@ -1,3 +1,5 @@
+use native.Mathlib.Omega.{arith}
+use Rattle.wire.proofs.Readers.{number-most}
 use Rattle.merge.proofs.Sourced.{list-stop, list-rows}
 use borrow.Author.Needs.{needs}
 use Rattle.merge.proofs.source.source_at.Statement.{statement}
@@ -5,7 +7,6 @@ use Rattle.merge.proofs.source.source_at.Tie as tie
 use Rattle.merge.proofs.source.source_at.Reads as reads
 use Rattle.merge.proofs.source.source_at.Lts as lts
 use Rattle.merge.proofs.source.no_source.Reads as no-source-reads
-use Rattle.merge.proofs.source.source_from.Reads as source-from-reads
 use Rattle.wire.proofs.number.read_number.Reads as read-number-reads
 
 read-number-requires : tie.Need-read-number-requires
@@ -14,8 +15,8 @@ read-number-requires c κs = search needs
 enum-known-next : tie.Need-enum-known-next
 enum-known-next c = search needs
 
-source-from-requires : tie.Need-source-from-requires
-source-from-requires c κs = search needs
+cast-t9 : tie.Need-cast-t9
+cast-t9 c = omega (arith, number-most _ _ (c .before .before .before .before .read-number .ensures))
 
 enum-told : tie.Need-enum-told
 enum-told c = search needs
@@ -35,7 +36,7 @@ source-at-spec =
     (tie.spec
     read-number-requires
     enum-known-next
-    source-from-requires
+    cast-t9
     enum-told
     no-source-requires
     returns
