@@ -2,8 +2,8 @@
 """The first part of the list that crates/vectors replays, on the bytes: chosen by hand from document 01, each field at its limits and one past
 them. The other parts, the reads and the changes, are rust/oracle's.
 
-    { python3 tools/vectors.py; cat rust/oracle/{reads,changes}.in; } > crates/vectors/stdin
-    { python3 tools/vectors.py | python3 tools/expected.py; cat rust/oracle/{reads,changes}.out; } > crates/vectors/stdout
+    { python3 tools/vectors.py; cat rust/oracle/reads.in; } > crates/vectors/stdin
+    { python3 tools/vectors.py | python3 tools/expected.py; cat rust/oracle/reads.out; } > crates/vectors/stdout
 """
 FULL = 2**64 - 1
 WORD = 2**32 - 1

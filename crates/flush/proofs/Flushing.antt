@@ -42,10 +42,10 @@ use Rattle.change.proofs.Finishing.{changes-refused, changes-made}
 use Rattle.change.proofs.Batches.{queueBytes, batches-bytes}
 use Rattle.walk.specs.Opens.{OpensLayers, Over}
 use Rattle.walk.specs.declared.open.Layers.{Layers}
-use Rattle.flush.specs.Nodes.{Few}
+use Rattle.base.specs.Nodes.{Few}
 use Rattle.flush.specs.Flushes.{flushed}
 use Rattle.flush.specs.declared.write.Flush.the-variants as F
-use Rattle.flush.proofs.Bases.{base-written, walk-few, layers-count}
+use Rattle.base.proofs.Bases.{base-written, walk-few, layers-count}
 
 -- ---- how a snapshot ends
 

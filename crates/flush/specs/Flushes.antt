@@ -9,7 +9,7 @@ use Rattle.writers.specs.Tails.{tail}
 use Rattle.change.specs.Sections.{between}
 use Rattle.walk.specs.Walks.{stacksLeft}
 use Rattle.walk.specs.declared.walk.Walk.{Walk}
-use Rattle.flush.specs.Nodes.{baseBytes}
+use Rattle.base.specs.Nodes.{baseBytes}
 use Rattle.flush.specs.declared.write.Flush.{Flush}
 use Rattle.flush.specs.declared.write.Flush.the-variants as F
 

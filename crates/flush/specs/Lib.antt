@@ -1,3 +1,2 @@
--- The nodes of a walk folded, and the images with them as the base.
-pub mod Nodes
+-- The images with the nodes of a walk, folded, as the base.
 pub mod Flushes

@@ -1,4 +1,3 @@
 // Layers flushed into the base: the fold of the front batch, and the snapshot of all layers.
 pub mod flush;
-mod node;
 mod write;

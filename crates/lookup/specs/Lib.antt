@@ -1,4 +1,3 @@
 -- Lists looked through by name.
 pub mod Search
 pub mod Children
-pub mod Xattrs

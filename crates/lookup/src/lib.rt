@@ -1,4 +1,3 @@
-// The reads of one inode that look for a name: children and extended attributes.
+// The reads of one inode that look for a name in lists: children.
 pub mod child;
 pub mod search;
-pub mod xattr;

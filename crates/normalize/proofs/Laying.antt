@@ -2,7 +2,7 @@
 -- Assumes nothing.
 use mathlib.Core.Path.{_≡_, refl, sym, ap, _∙_}
 use mathlib.Core.Option.{Option, none, some}
-use mathlib.Core.Bool.{true, false}
+use mathlib.Core.Bool.{Bool, true, false}
 use mathlib.Core.List.{List, [], _∷_, _++_, map}
 use Prim.Native.Nat.{ℕ, zero, suc, _+_, _≤_, _<_}
 use native.Mathlib.Omega.{arith}
@@ -38,15 +38,15 @@ use Rattle.normalize.specs.Rows.{normalRows, PutsStep, PutsRows}
 
 -- ---- one step
 
-module _ {img : List ℕ} {step : Step} {old : List ℕ} {at : ℕ} where
-  pub step-topped : {mid new : List ℕ} {q r : ℕ} → step .top ≡ true → Put old at (inode .write (step .inode)) q mid → Put mid q (layerRecord .write (normalPieces (piecesIn img (step .stack)))) r new
-      → PutsStep img step old at r new
+module _ {img : List ℕ} {top : Bool} {ino : ℕ} {s : InodeLayerStack} {old : List ℕ} {at : ℕ} where
+  pub step-topped : {mid new : List ℕ} {q r : ℕ} → top ≡ true → Put old at (inode .write ino) q mid → Put mid q (layerRecord .write (normalPieces (piecesIn img s))) r new
+      → PutsStep img top ino s old at r new
   step-topped e p q = record { topped = λ t h. put-append p q; passed = λ t. absurd (let z : _≡_ {A = ℕ} 0 1 = cc in omega arith); low = λ h. omega (arith, q .to); same = put-length q ∙ put-length p }
 
-  pub step-bare : step .stack .count ≤ 0 → step .top ≡ true → PutsStep img step old at at old
+  pub step-bare : s .count ≤ 0 → top ≡ true → PutsStep img top ino s old at at old
   step-bare h e = record { topped = λ t k. absurd (omega arith); passed = λ t. (refl, refl); low = λ h. h; same = refl }
 
-  pub step-passed : step .top ≡ false → PutsStep img step old at at old
+  pub step-passed : top ≡ false → PutsStep img top ino s old at at old
   step-passed e = record { topped = λ t. absurd (let z : _≡_ {A = ℕ} 0 1 = cc in omega arith); passed = λ t. (refl, refl); low = λ h. h; same = refl }
 
 -- ---- the rows of the topmost layer
@@ -119,7 +119,7 @@ module _ (b : Base) (ls : List Layer) (l : Layer) where
   stack-top k r p g i = i .pieces ∙ rw (stack-append, g)
 
   module _ {img old : List ℕ} {at : ℕ} {rest : Walk} {buf : List ℕ} {next : ℕ} {step : Step} (s : Steps img rest step) (m : step .more ≡ true)
-      {out : List ℕ} {q : ℕ} (p : PutsStep img step buf next q out) where
+      {out : List ℕ} {q : ℕ} (p : PutsStep img (step .top) (step .inode) (step .stack) buf next q out) where
     rows-next : RowsLeft img old at rest buf next → RowsLeft img old at (step .rest) out q
     unfolding pass rowsBytes
     rows-next w = go (w .left) (w .tops) (w .found) (w .put)
@@ -176,7 +176,7 @@ module _ {img : List ℕ} {w : Walk} {old : List ℕ} {at : ℕ} {rest : Walk} {
   pub laying-less : step .more ≡ true → length (stacksLeft img (step .rest)) < length (stacksLeft img rest)
   laying-less m = rw (s .stacks, m) (omega arith)
 
-  pub laying-more : step .more ≡ true → {out : List ℕ} {q : ℕ} → PutsStep img step buf next q out → Laying img w old at (step .rest) out q
+  pub laying-more : step .more ≡ true → {out : List ℕ} {q : ℕ} → PutsStep img (step .top) (step .inode) (step .stack) buf next q out → Laying img w old at (step .rest) out q
   laying-more m p = record { ready = s .ready; low = p .low (g .low); same = p .same ∙ g .same; short = g .short; puts = λ b ls l o. rows-next b ls l s m p (g .puts b ls l o) }
 
   pub laying-end : step .more ≡ false → PutsRows img w old at next buf

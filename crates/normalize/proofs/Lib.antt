@@ -1,6 +1,4 @@
 -- Laws that the proofs of more than one function use.
-pub mod Leading
-pub mod Keeping
 pub mod Recording
 pub mod Laying
 pub mod Imaging

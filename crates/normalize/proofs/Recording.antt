@@ -52,8 +52,8 @@ use Rattle.merge.specs.declared.merge.Sources.{Sources}
 use Rattle.merge.specs.declared.merge.Merge.{Merge}
 use Rattle.change.specs.Sections.{between}
 use Rattle.walk.specs.Walks.{piecesIn}
-use Rattle.normalize.specs.Below.{Leads}
-use Rattle.normalize.specs.Keeps.{leadsIn, keptMap}
+use Rattle.keep.specs.Below.{Leads}
+use Rattle.keep.specs.Keeps.{leadsIn, keptMap}
 use Rattle.normalize.specs.Records.{isDirectory, normalIn, normalPieces, Copies}
 
 -- bytes from one place to another

@@ -1,6 +1,4 @@
 -- What normalising a layer writes.
-pub mod Below
-pub mod Keeps
 pub mod Records
 pub mod Rows
 pub mod Images

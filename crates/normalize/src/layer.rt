@@ -3,20 +3,26 @@ ghost use Rattle.stack.specs.Stacks.{Stacked};
 ghost use Rattle.walk.specs.Walks.{Ready};
 ghost use Rattle.normalize.specs.Rows.{PutsStep, PutsRows};
 use crate::record::put_normal_record;
-use walk::walk::Step;
+use survey::batch::InodeLayerStack;
 use walk::walk::Walk;
 use walk::walk::next_stack;
 use wire::number::put_number;
 
 // Writes the record of one inode, if the topmost layer has one.
-fn put_normal_step(buf: &mut [u8], at: usize, img: &[u8], step: Step) -> usize
-    requires { ⌜ Stacked (now img) (step .stack) ⌝ }
-    ensures { λ r. ⌜ PutsStep (now (img .entry)) step (now (buf .entry)) at r (now (buf .exit)) ⌝ }
+fn put_normal_step(
+    buf: &mut [u8],
+    at: usize,
+    img: &[u8],
+    top: bool,
+    inode: u64,
+    stack: InodeLayerStack,
+) -> usize
+    requires { ⌜ Stacked (now img) stack ⌝ }
+    ensures { λ r. ⌜ PutsStep (now (img .entry)) top inode stack (now (buf .entry)) at r (now (buf .exit)) ⌝ }
 {
-    let stack = step.stack;
-    if step.top {
+    if top {
         if 0 < stack.count {
-            let record = put_number(buf, at, step.inode);
+            let record = put_number(buf, at, inode);
             return put_normal_record(buf, record, img, stack);
         }
     }
@@ -33,7 +39,8 @@ pub fn put_normal_rows(buf: &mut [u8], at: usize, img: &[u8], walk: Walk) -> usi
     loop {
         let step = next_stack(img, rest);
         if step.more {
-            next = put_normal_step(buf, next, img, step);
+            let stack = step.stack;
+            next = put_normal_step(buf, next, img, step.top, step.inode, stack);
             rest = step.rest;
         } else {
             return next;

@@ -1,6 +1,4 @@
 // Directory deltas of a layer, held against the layers below.
-pub mod below;
-pub mod keep;
 pub mod layer;
 pub mod normalize;
 pub mod record;

@@ -36,18 +36,18 @@ use Rattle.rules.specs.ChangeCalls.{freezeLive}
 use Rattle.change.specs.Changed.{Changes, ifFits}
 use Rattle.change.specs.Sections.{tailOf, Stands}
 use Rattle.change.specs.Batches.{HeadParts}
-use Rattle.queue.specs.Queues.{headBytes, headOperations, sumFrom, QueueAt, atCapacity, frozenHead, tailAfterId}
+use Rattle.waiting.specs.Queues.{headBytes, headOperations, sumFrom, QueueAt, atCapacity, frozenHead, tailAfterId}
 use Rattle.change.specs.Sections.{between}
-use Rattle.queue.specs.NewQueues.{refrozen}
+use Rattle.waiting.specs.NewQueues.{refrozen}
 use Rattle.change.specs.declared.answer.ChangeAnswer.{ChangeAnswer}
 use Rattle.change.specs.declared.answer.ChangeAnswer.the-variants as A
-use Rattle.queue.specs.declared.batch.Queue.{Queue}
+use Rattle.waiting.specs.declared.batch.Queue.{Queue}
 use Rattle.change.specs.declared.section.Sections.{Sections}
 use Rattle.change.proofs.Sections.{span-part, span-front, span-reads, store-bytes, stands-fits}
 use Rattle.change.proofs.Finishing.{changes-refused, changes-made}
 use Rattle.queue.proofs.Staging.{stands-tail}
 use Rattle.change.proofs.Batches.{headOf, batchBytes, queueBytes, batches-bytes, queue-more}
-use Rattle.queue.proofs.Queues.{sum-queue}
+use Rattle.waiting.proofs.Queues.{sum-queue}
 use Rattle.queue.proofs.Popping.{none-of, stands-count, stands-queue}
 
 not-empty : {A : Type 0} (l : List A) → (length l ≡ 0 → ⊥) → isEmpty l ≡ false

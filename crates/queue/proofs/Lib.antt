@@ -1,5 +1,4 @@
 -- Laws that the proofs of more than one function use.
 pub mod Staging
-pub mod Queues
 pub mod Popping
 pub mod Freezing

@@ -24,7 +24,7 @@ use Rattle.rules.specs.ChangeCalls.{popFlushedBatch}
 use Rattle.change.specs.Changed.{Changes, ifFits}
 use Rattle.change.specs.Sections.{Spans, tailOf, Stands}
 use Rattle.change.specs.Batches.{HeadParts, passBatch}
-use Rattle.queue.specs.NewQueues.{requeued}
+use Rattle.waiting.specs.NewQueues.{requeued}
 use Rattle.change.specs.declared.answer.ChangeAnswer.{ChangeAnswer}
 use Rattle.change.specs.declared.answer.ChangeAnswer.the-variants as A
 use Rattle.change.specs.declared.section.Sections.{Sections}

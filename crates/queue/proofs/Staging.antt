@@ -25,7 +25,7 @@ use Rattle.rules.specs.ChangeCalls.{requestFreeze, recordMutation}
 use Rattle.change.specs.Changed.{Changes, ifFits}
 use Rattle.change.specs.Sections.{tailOf, Stands}
 use Rattle.change.specs.Sections.{between}
-use Rattle.queue.specs.NewQueues.{restaged}
+use Rattle.waiting.specs.NewQueues.{restaged}
 use Rattle.change.specs.declared.answer.ChangeAnswer.{ChangeAnswer}
 use Rattle.change.specs.declared.answer.ChangeAnswer.the-variants as A
 use Rattle.change.specs.declared.section.Sections.{Sections}

@@ -1,3 +1,1 @@
 -- What the calls on the queue write.
-pub mod Queues
-pub mod NewQueues

@@ -31,12 +31,12 @@ use Rattle.rules.specs.Reads.{orElse}
 use Rattle.rules.specs.Changes.{mergeFields, mergeChanges}
 use Rattle.change.specs.Sections.{between, Spans}
 use Rattle.meld.specs.Merged.{changesAnew}
-use Rattle.update.specs.Fields.{orWord, orTime, orPart, attrOver}
+use Rattle.fields.specs.Fields.{orWord, orTime, orPart, attrOver}
 use Rattle.update.specs.Updates.{mergedDelta, Onto}
 use Rattle.overlay.specs.declared.write.Lived.{Lived}
 use Rattle.update.specs.declared.write.NewImage.the-variants as N
-use Rattle.update.specs.declared.fields.NewChange.the-variants as C
-use Rattle.update.specs.declared.fields.Updated.{Updated}
+use Rattle.fields.specs.declared.fields.NewChange.the-variants as C
+use Rattle.fields.specs.declared.fields.Updated.{Updated}
 use Rattle.change.proofs.Sections.{span-part, span-front, span-back, span-reads}
 use Rattle.meld.proofs.Melding.{changes-written}
 

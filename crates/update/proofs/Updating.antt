@@ -52,8 +52,8 @@ use Rattle.change.specs.Sections.{Spans, Stands}
 use Rattle.change.specs.Cuts.{rowHere, underFirst, StandsAt, CutsRecords}
 use Rattle.meld.specs.Merged.{changesAnew}
 use Rattle.overlay.specs.NewImages.{livedOf, relived}
-use Rattle.update.specs.Anew.{bareBytes, deltaAnew, newBytes}
-use Rattle.update.specs.Updates.{leftOver, newDelta, mergedDelta, Onto, Updates}
+use Rattle.fields.specs.Anew.{bareBytes, deltaAnew}
+use Rattle.update.specs.Updates.{newBytes, leftOver, newDelta, mergedDelta, Onto, Updates}
 use Rattle.change.specs.declared.answer.ChangeAnswer.{ChangeAnswer}
 use Rattle.change.specs.declared.answer.ChangeAnswer.the-variants as R
 use Rattle.change.specs.declared.section.Sections.{Sections}
@@ -61,7 +61,7 @@ use Rattle.change.specs.declared.cut.Cut.{Cut}
 use Rattle.overlay.specs.declared.write.Lived.{Lived}
 use Rattle.update.specs.declared.write.NewImage.{NewImage}
 use Rattle.update.specs.declared.write.NewImage.the-variants as N
-use Rattle.update.specs.declared.fields.Updated.{Updated}
+use Rattle.fields.specs.declared.fields.Updated.{Updated}
 use Rattle.change.proofs.Finishing.{changes-refused, changes-made}
 use Rattle.overlay.proofs.Living.{not-false, read-whole, read-longer, is-cut, lived-bytes}
 use Rattle.change.proofs.Cutting.{get-here}

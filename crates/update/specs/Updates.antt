@@ -21,13 +21,13 @@ use Rattle.stack.specs.Stacks.{StackOf}
 use Rattle.rules.specs.Changes.{mergeFields, updated}
 use Rattle.rules.specs.Queue.{onLive, typeBelow}
 use Rattle.change.specs.Sections.{Spans, Stands}
-use Rattle.update.specs.Anew.{deltaAnew, newBytes}
+use Rattle.fields.specs.Anew.{deltaAnew, updatedImage}
 use Rattle.change.specs.declared.section.Sections.{Sections}
 use Rattle.overlay.specs.declared.write.Lived.{Lived}
 use Rattle.update.specs.declared.write.NewImage.{NewImage}
 use Rattle.update.specs.declared.write.NewImage.the-variants as N
-use Rattle.update.specs.declared.fields.NewChange.the-variants as K
-use Rattle.update.specs.declared.fields.Updated.{Updated}
+use Rattle.fields.specs.declared.fields.NewChange.the-variants as K
+use Rattle.fields.specs.declared.fields.Updated.{Updated}
 
 -- "4 if the delta given breaks the layout, has bytes left over"
 abbrev pub leftOver : Cursor → ℕ → Bool
@@ -36,6 +36,11 @@ leftOver (C.Stop f) n = true
 
 abbrev pub newDelta : Lived → ℕ → AttrDelta → Updated
 newDelta l code a = record { lived = l; code = code; «attr_delta» = a; new = a .xattrs; old = P.None; change = K.Bare }
+
+-- the new image: with another live record, or as it was
+abbrev pub newBytes : List ℕ → List ℕ → Sections → NewImage → List ℕ
+newBytes img given p (N.Updated n) = updatedImage img given p n
+newBytes img given p N.Same = img
 
 -- the fields of a delta, with those given over them
 abbrev pub mergedDelta : List ℕ → AttrDelta → Delta → Record

@@ -1,4 +1,3 @@
 // update_attr_delta: the fields given, merged into an inode's live delta.
-pub mod fields;
 pub mod update;
 pub mod write;

@@ -2,13 +2,14 @@
 ghost use lib.ListN.{length};
 ghost use Rattle.wire.specs.Put.{Put};
 ghost use Rattle.change.specs.Changed.{Changes, ifFits};
-ghost use Rattle.update.specs.Anew.{updatedImage, newBytes};
-use crate::fields::Updated;
-use crate::fields::put_updated;
+ghost use Rattle.fields.specs.Anew.{updatedImage};
+ghost use Rattle.update.specs.Updates.{newBytes};
 use change::answer::ChangeAnswer;
 use change::answer::lacks_room;
 use change::copy::put_between;
 use change::section::Sections;
+use fields::fields::Updated;
+use fields::fields::put_updated;
 use wire::number::put_number;
 use wire::put::put_bytes;
 

@@ -1,12 +1,11 @@
 // One line of the list, and its answer.
-use crate::changes;
-use crate::line::bytes;
-use crate::line::decimal;
-use crate::line::same;
-use crate::line::word;
 use crate::reads;
-use crate::show;
 use passes::inode::Place;
+use script::line::bytes;
+use script::line::decimal;
+use script::line::same;
+use script::line::word;
+use script::show;
 use survey::batch::InodeLayerStack;
 use survey::store::Verdict;
 use survey::store::read_image;
@@ -40,7 +39,6 @@ pub fn answer(line: &[u8]) {
         image(line);
     }
     reads::answer(line);
-    changes::answer(line);
     show::text(b"\n");
 }
 

@@ -1,13 +1,13 @@
 // Rows lent to a listing, and read afterwards.
 ghost use Prim.Native.Nat.{_≤_};
-use crate::line::bytes;
-use crate::line::decimal;
-use crate::line::word;
-use crate::show;
 use layers::answer::RowsAnswer;
 use rows::listing::Entry;
 use rows::listing::list_directory;
 use rows::listing::list_xattrs;
+use script::line::bytes;
+use script::line::decimal;
+use script::line::word;
+use script::show;
 use wire::part::part;
 
 pub struct Listed {

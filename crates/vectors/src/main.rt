@@ -18,26 +18,13 @@
 //     parent INODE BYTES           the inode
 //     xattr INODE NAME BYTES       the value
 //     names INODE ROWS BYTES       how many names of extended attributes, and each
-//
-// The changes, whose new images are the published Rust's too. ROOM is the length of the lent target; SECONDS has its sign before it.
-//
-//     insert INODE DELTA ROOM BYTES                    tombstone INODE ROOM BYTES
-//     add INODE NAME CHILD SECONDS NANOS ROOM BYTES    remove INODE NAME SECONDS NANOS ROOM BYTES
-//     setparent INODE PARENT ROOM BYTES                update INODE FIELDS ROOM BYTES
-//     normalise POSITION ROOM BYTES                    freeze DEPTH BYTES OPERATIONS SECONDS NANOS ROOM BYTES
-//     fold ROOM BYTES                                  pop ID ROOM BYTES
-//     note BYTES ROOM BYTES                            request REASON ROOM BYTES
-//     snapshot ROOM BYTES
 mod answer;
-mod changes;
 mod lend;
-mod line;
 mod reads;
-mod show;
 
 use answer::answer;
 use libc::STDIN_FILENO;
-use line::find;
+use script::line::find;
 
 fn main() {
     let mut input = [0u8; 262144];

@@ -1,10 +1,5 @@
 // The reads of an image's layers.
 use crate::lend;
-use crate::line::bytes;
-use crate::line::decimal;
-use crate::line::same;
-use crate::line::word;
-use crate::show;
 use attrs::node::FileAttr;
 use layers::answer::AttrAnswer;
 use layers::answer::InodeAnswer;
@@ -13,9 +8,14 @@ use layers::answer::YesNo;
 use layers::attr as file_attr;
 use layers::layers as reads;
 use lookup::child::lookup_child;
-use lookup::xattr::get_xattr;
-use lookup::xattr::has_xattr;
+use script::line::bytes;
+use script::line::decimal;
+use script::line::same;
+use script::line::word;
+use script::show;
 use wire::part::part;
+use xattrs::xattr::get_xattr;
+use xattrs::xattr::has_xattr;
 
 // The answer of a line that asks for a read; of another line nothing.
 pub fn answer(line: &[u8]) {

@@ -4,7 +4,7 @@ use Rattle.flush.proofs.write.put_flushed.Statement.{statement}
 use Rattle.flush.proofs.write.put_flushed.Tie as tie
 use Rattle.flush.proofs.write.put_flushed.Reads as reads
 use Rattle.flush.proofs.write.put_flushed.Lts as lts
-use Rattle.flush.proofs.node.put_base.Reads as put-base-reads
+use Rattle.base.proofs.node.put_base.Reads as put-base-reads
 use Rattle.flush.proofs.write.drops_of.Reads as drops-of-reads
 use Rattle.flush.proofs.write.put_rest.Reads as put-rest-reads
 

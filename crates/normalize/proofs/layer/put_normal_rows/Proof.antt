@@ -16,31 +16,24 @@ Inv-loop buf₀ at img next₀ rest₀ buf next rest = Laying img rest₀ buf₀
 abbrev μ-loop : tie.MeasureT-loop
 μ-loop buf₀ at img next₀ rest₀ buf next rest = length (stacksLeft img rest)
 
--- src/rows.rt:34:5
 loop-holds : tie.Need-loop-holds Inv-loop μ-loop
 loop-holds c = laying-start (c .before .before .pre) (omega arith) (omega arith)
 
--- src/rows.rt:35:13
 next-stack-requires : tie.Need-next-stack-requires Inv-loop μ-loop
 next-stack-requires c κs = search needs
 
--- src/rows.rt:37:13
 put-normal-step-requires : tie.Need-put-normal-step-requires Inv-loop μ-loop
 put-normal-step-requires c κs = search needs
 
--- src/rows.rt:34:5
 loop-less : tie.Need-loop-less Inv-loop μ-loop
 loop-less c = search laying-less
 
--- src/rows.rt:34:5
 loop-again : tie.Need-loop-again Inv-loop μ-loop
-loop-again c = laying-more (c .before .before .before .before .before .before .before .loop .inv) (c .before .before .before .before .before .before .next-stack .ensures) (c .before .before .before .before .before .if1 .taken) (c .before .before .before .put-normal-step .ensures)
+loop-again c = laying-more (c .before .before .before .before .before .before .before .before .loop .inv) (c .before .before .before .before .before .before .before .next-stack .ensures) (c .before .before .before .before .before .before .if1 .taken) (c .before .before .before .put-normal-step .ensures)
 
--- src/rows.rt:40:13
 same-length : tie.Need-same-length Inv-loop μ-loop
 same-length c = search needs
 
--- src/rows.rt:40:13
 returns : tie.Need-returns Inv-loop μ-loop
 returns c = laying-end (c .before .before .loop .inv) (c .before .next-stack .ensures) (c .if1 .left)
 

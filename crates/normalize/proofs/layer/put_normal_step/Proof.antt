@@ -8,27 +8,21 @@ use Rattle.normalize.proofs.layer.put_normal_step.Lts as lts
 use Rattle.normalize.proofs.record.put_normal_record.Reads as put-normal-record-reads
 use Rattle.wire.proofs.number.put_number.Reads as put-number-reads
 
--- src/rows.rt:20:17
 put-number-requires : tie.Need-put-number-requires
 put-number-requires c κs = search needs
 
--- src/rows.rt:21:13
 put-normal-record-requires : tie.Need-put-normal-record-requires
 put-normal-record-requires c κs = search needs
 
--- src/rows.rt:21:13
 same-length : tie.Need-same-length
 same-length c = search needs
 
--- src/rows.rt:21:13
 returns : tie.Need-returns
 returns c = search step-topped
 
--- src/rows.rt:13:1
 returns-2 : tie.Need-returns-2
 returns-2 c = search (step-bare, arith)
 
--- src/rows.rt:13:1
 returns-3 : tie.Need-returns-3
 returns-3 c = search step-passed
 

@@ -1,6 +1,6 @@
 use mathlib.Core.Path.{sym, ap, _∙_}
 use Rattle.normalize.specs.Records.{isDirectory}
-use Rattle.normalize.proofs.Keeping.{settled-rises}
+use Rattle.keep.proofs.Keeping.{settled-rises}
 use Rattle.normalize.proofs.Recording.{lists-there, normal-directory, normal-none}
 use borrow.Author.Needs.{needs}
 use Rattle.normalize.proofs.record.put_normal_directory.Statement.{statement}
@@ -10,8 +10,8 @@ use Rattle.normalize.proofs.record.put_normal_directory.Lts as lts
 use Rattle.change.proofs.copy.put_between.Reads as put-between-reads
 use Rattle.stack.proofs.file_type.type_in.Reads as type-in-reads
 use Rattle.merge.proofs.merge.settle.Reads as settle-reads
-use Rattle.normalize.proofs.below.names_in.Reads as names-in-reads
-use Rattle.normalize.proofs.keep.put_kept_list.Reads as put-kept-list-reads
+use Rattle.keep.proofs.below.names_in.Reads as names-in-reads
+use Rattle.keep.proofs.keep.put_kept_list.Reads as put-kept-list-reads
 use Rattle.normalize.proofs.record.is_directory.Reads as is-directory-reads
 use Rattle.wire.proofs.number.put_number.Reads as put-number-reads
 

@@ -1,0 +1,2 @@
+-- The nodes of a walk, folded.
+pub mod Nodes

@@ -1,0 +1,3 @@
+-- What names lead to below, and the rows that stay.
+pub mod Below
+pub mod Keeps

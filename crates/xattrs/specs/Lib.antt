@@ -1,0 +1,2 @@
+-- Extended attributes by name.
+pub mod Xattrs

@@ -1,0 +1,2 @@
+// Extended attributes by name: their values and whether they are there.
+pub mod xattr;
