@@ -38,7 +38,7 @@ use Rattle.rules.specs.PlacedStacks.{recordsOn, nodeAt}
 use Rattle.rules.proofs.ListPlaces.{added-at, entries-at}
 use Rattle.merge.specs.Pile.{rowsOf}
 use Rattle.merge.specs.Sources.{Decided, listRows}
-use Rattle.merge.specs.Merges.{sourcesOf, Whole, NoSources, Pushes, Ready}
+use Rattle.merge.specs.Merges.{sourcesOf, Whole, NoSources, howMany, rowsIn, Pushes, Ready}
 use Rattle.gather.specs.Lists.{changeLists, alterLists, deltaLists, recordLists, isTombstone, entryLists, nodeLists, baseLists}
 use Rattle.stack.specs.Stacks.{Stacked, recordsUnder, recordsIn, nodeIn, RecordIs, NodeIs, BaseIs}
 use Rattle.gather.specs.declared.gather.Lists.{Lists}
@@ -46,6 +46,8 @@ use Rattle.gather.specs.declared.gather.Lists.the-variants as L
 use Rattle.stack.specs.declared.stack.OptionNode.{OptionNode}
 use Rattle.stack.specs.declared.stack.OptionNode.the-variants as O
 use Rattle.merge.specs.declared.merge.Sources.{Sources}
+use Rattle.merge.specs.declared.merge.AtMostTwo.{AtMostTwo}
+use Rattle.merge.proofs.Merging.{many-rows}
 use Rattle.merge.proofs.Lists.{pileRows, rows-append, sourceOf, list-are, pile-ascends}
 use Rattle.wire.specs.Lists.{Every}
 use Rattle.gather.proofs.Shorts.{every-append, delta-short, base-short}
@@ -163,6 +165,24 @@ lists-few img (L.AttributesOf t) n = go (sameKind (changedKind (changeMeant img 
     go : (b : Bool) → length (cond b (alterLists img (attrOf n .xattrs)) []) ≤ 2
     go true = alter-few img (attrOf n .xattrs)
     go false = omega arith
+
+base-few : (img : List ℕ) (l : Lists) (o : OptionNode) → length (baseLists img l o) ≤ 1
+base-few img l O.None = omega arith
+base-few img L.Entries (O.Some n) = go (n .kind)
+  where
+    go : (k : NodeKind) → length (entryLists img k) ≤ 1
+    go (K.Directory parent es) = omega arith
+    go (K.File size) = omega arith
+    go (K.Symlink t) = omega arith
+    go K.Fifo = omega arith
+    go (K.CharDevice rdev) = omega arith
+    go (K.BlockDevice rdev) = omega arith
+    go K.Socket = omega arith
+base-few img L.Attributes (O.Some n) = omega arith
+base-few img (L.AttributesOf t) (O.Some n) = omega arith
+
+pub base-room : (img : List ℕ) (l : Lists) (o : OptionNode) (f : AtMostTwo) → rowsIn img f ≡ baseLists img l o → howMany f ≤ 1
+base-room img l o f e = omega (arith, many-rows img f, ap length e, base-few img l o)
 
 module _ (img : List ℕ) (s : InodeLayerStack) (l : Lists) where
   -- the sources of the lowest i records and of the node

@@ -1,5 +1,5 @@
 // The sources of a stack, from the top: of each record the lists that say something of names, down to a tombstone or the base.
-ghost use Prim.Native.Nat.{ℕ, _<_};
+ghost use Prim.Native.Nat.{ℕ};
 ghost use mathlib.Core.Path.{_≡_};
 ghost use mathlib.Core.List.{List};
 ghost use Rattle.image.specs.Meaning.{changedKind};
@@ -7,7 +7,7 @@ ghost use Rattle.deltas.specs.Deltas.{attrOf, changeMeant};
 ghost use Rattle.rules.specs.Fold.{sameKind};
 ghost use Rattle.attrs.specs.Meant.{kindMeant};
 ghost use Rattle.stack.specs.Stacks.{Stacked};
-ghost use Rattle.merge.specs.Merges.{Whole, Pushes};
+ghost use Rattle.merge.specs.Merges.{rowsIn};
 ghost use Rattle.gather.specs.Lists.{changeLists, alterLists, alterListsOf, deltaLists, recordLists, isTombstone, entryLists, nodeLists, baseLists};
 ghost use Rattle.gather.specs.Gathers.{Gathers};
 use attrs::attr::type_row;
@@ -17,11 +17,11 @@ use deltas::delta::EntryDelta;
 use deltas::delta::NodeDelta;
 use deltas::delta::attr_delta;
 use image::name::Under;
+use merge::merge::AtMostTwo;
 use merge::merge::Sources;
+use merge::merge::list_if;
 use merge::merge::no_sources;
-use merge::merge::push_list;
-use merge::merge::push_list_if;
-use merge::merge::push_source;
+use merge::merge::push_lists;
 use merge::source::source_at;
 use nodes::node::Node;
 use nodes::node::NodeKind;
@@ -46,93 +46,87 @@ pub fn of_type(delta: NodeDelta, file_type: FileType) -> bool
 }
 
 // What a directory delta adds is over what it removes.
-fn push_change(img: &[u8], all: Sources, delta: NodeDelta) -> Sources
-    requires { ⌜ Whole all × (all .count < 34) ⌝ }
-    ensures { λ r. ⌜ Pushes (now (img .entry)) all (changeLists (now (img .entry)) delta) r ⌝ }
+fn change_lists(img: &[u8], delta: NodeDelta) -> AtMostTwo
+    ensures { λ r. ⌜ rowsIn (now (img .entry)) r ≡ changeLists (now (img .entry)) delta ⌝ }
 {
     let NodeDelta::Directory(directory) = delta else {
-        return all;
+        return AtMostTwo::None;
     };
     let added = directory.added;
     let removed = directory.removed;
     let over = source_at(img, added.start, Under::Inode);
     let under = source_at(img, removed.start, Under::Nothing);
-    push_source(push_source(all, over), under)
+    AtMostTwo::Two { over, under }
 }
 
 // The attribute changes of a delta, whatever its kind.
-fn push_changes(img: &[u8], all: Sources, delta: NodeDelta) -> Sources
-    requires { ⌜ Whole all × (all .count < 34) ⌝ }
-    ensures { λ r. ⌜ Pushes (now (img .entry)) all (alterLists (now (img .entry)) (attrOf delta .xattrs)) r ⌝ }
+fn attribute_lists(img: &[u8], delta: NodeDelta) -> AtMostTwo
+    ensures { λ r. ⌜ rowsIn (now (img .entry)) r ≡ alterLists (now (img .entry)) (attrOf delta .xattrs) ⌝ }
 {
     let attr = attr_delta(delta);
     let changes = attr.xattrs;
-    push_list_if(img, all, changes, Under::Change)
+    list_if(img, changes, Under::Change)
 }
 
 // The same, if it is of the type.
-fn push_changes_of(img: &[u8], all: Sources, delta: NodeDelta, file_type: FileType) -> Sources
-    requires { ⌜ Whole all × (all .count < 34) ⌝ }
-    ensures { λ r. ⌜ Pushes (now (img .entry)) all (alterListsOf (now (img .entry)) (kindMeant «file_type») delta) r ⌝ }
+fn attribute_lists_of(img: &[u8], delta: NodeDelta, file_type: FileType) -> AtMostTwo
+    ensures { λ r. ⌜ rowsIn (now (img .entry)) r ≡ alterListsOf (now (img .entry)) (kindMeant «file_type») delta ⌝ }
 {
     if of_type(delta, file_type) {
-        return push_changes(img, all, delta);
+        return attribute_lists(img, delta);
     }
-    all
+    AtMostTwo::None
 }
 
-fn push_delta(img: &[u8], all: Sources, delta: NodeDelta, lists: Lists) -> Sources
-    requires { ⌜ Whole all × (all .count < 34) ⌝ }
-    ensures { λ r. ⌜ Pushes (now (img .entry)) all (deltaLists (now (img .entry)) lists delta) r ⌝ }
+fn delta_lists(img: &[u8], delta: NodeDelta, lists: Lists) -> AtMostTwo
+    ensures { λ r. ⌜ rowsIn (now (img .entry)) r ≡ deltaLists (now (img .entry)) lists delta ⌝ }
 {
     match lists {
-        Lists::Entries => push_change(img, all, delta),
-        Lists::Attributes => push_changes(img, all, delta),
-        Lists::AttributesOf(file_type) => push_changes_of(img, all, delta, file_type),
+        Lists::Entries => change_lists(img, delta),
+        Lists::Attributes => attribute_lists(img, delta),
+        Lists::AttributesOf(file_type) => attribute_lists_of(img, delta, file_type),
     }
 }
 
-fn push_record(img: &[u8], all: Sources, entry: EntryDelta, lists: Lists) -> Sources
-    requires { ⌜ Whole all × (all .count < 34) ⌝ }
-    ensures { λ r. ⌜ Pushes (now (img .entry)) all (recordLists (now (img .entry)) lists entry) r ⌝ }
+fn record_lists(img: &[u8], entry: EntryDelta, lists: Lists) -> AtMostTwo
+    ensures { λ r. ⌜ rowsIn (now (img .entry)) r ≡ recordLists (now (img .entry)) lists entry ⌝ }
 {
     match entry {
-        EntryDelta::Node(delta) => push_delta(img, all, delta, lists),
-        EntryDelta::Tombstone => all,
+        EntryDelta::Node(delta) => delta_lists(img, delta, lists),
+        EntryDelta::Tombstone => AtMostTwo::None,
     }
 }
 
-fn push_entries(img: &[u8], all: Sources, kind: NodeKind) -> Sources
-    requires { ⌜ Whole all × (all .count < 35) ⌝ }
-    ensures { λ r. ⌜ Pushes (now (img .entry)) all (entryLists (now (img .entry)) kind) r ⌝ }
+fn entry_lists(img: &[u8], kind: NodeKind) -> AtMostTwo
+    ensures { λ r. ⌜ rowsIn (now (img .entry)) r ≡ entryLists (now (img .entry)) kind ⌝ }
 {
     match kind {
-        NodeKind::Directory { parent: _, entries } => push_list(img, all, entries, Under::Inode),
-        _ => all,
+        NodeKind::Directory { parent: _, entries } => {
+            AtMostTwo::One(source_at(img, entries.start, Under::Inode))
+        }
+        _ => AtMostTwo::None,
     }
 }
 
-fn push_node(img: &[u8], all: Sources, node: Node, lists: Lists) -> Sources
-    requires { ⌜ Whole all × (all .count < 35) ⌝ }
-    ensures { λ r. ⌜ Pushes (now (img .entry)) all (nodeLists (now (img .entry)) lists node) r ⌝ }
+fn node_lists(img: &[u8], node: Node, lists: Lists) -> AtMostTwo
+    ensures { λ r. ⌜ rowsIn (now (img .entry)) r ≡ nodeLists (now (img .entry)) lists node ⌝ }
 {
     let kind = node.kind;
     let meta = node.meta;
     let attributes = meta.xattrs;
     match lists {
-        Lists::Entries => push_entries(img, all, kind),
-        Lists::Attributes => push_list(img, all, attributes, Under::Value),
-        Lists::AttributesOf(_) => push_list(img, all, attributes, Under::Value),
+        Lists::Entries => entry_lists(img, kind),
+        Lists::Attributes => AtMostTwo::One(source_at(img, attributes.start, Under::Value)),
+        Lists::AttributesOf(_) => AtMostTwo::One(source_at(img, attributes.start, Under::Value)),
     }
 }
 
-fn push_base(img: &[u8], all: Sources, base: OptionNode, lists: Lists) -> Sources
-    requires { ⌜ Whole all × (all .count < 35) ⌝ }
-    ensures { λ r. ⌜ Pushes (now (img .entry)) all (baseLists (now (img .entry)) lists base) r ⌝ }
+fn base_lists(img: &[u8], base: OptionNode, lists: Lists) -> AtMostTwo
+    ensures { λ r. ⌜ rowsIn (now (img .entry)) r ≡ baseLists (now (img .entry)) lists base ⌝ }
 {
     match base {
-        OptionNode::Some(node) => push_node(img, all, node, lists),
-        OptionNode::None => all,
+        OptionNode::Some(node) => node_lists(img, node, lists),
+        OptionNode::None => AtMostTwo::None,
     }
 }
 
@@ -159,7 +153,7 @@ pub fn gather_sources(img: &[u8], stack: InodeLayerStack, lists: Lists) -> Sourc
         if is_tombstone(record) {
             return all;
         }
-        all = push_record(img, all, record, lists);
+        all = push_lists(all, record_lists(img, record, lists));
     }
-    push_base(img, all, base_node(img, stack), lists)
+    push_lists(all, base_lists(img, base_node(img, stack), lists))
 }

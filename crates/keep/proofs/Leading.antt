@@ -5,7 +5,7 @@ use mathlib.Core.Option.{Option, none, some}
 use mathlib.Core.List.{List, [], _∷_, _++_, append-nil}
 use Prim.Native.Nat.{ℕ, _+_, _-_, _*_, _≤_, _<_}
 use native.Mathlib.Omega.{arith}
-use lib.ListN.{drop, getD}
+use lib.ListN.{length, drop, getD}
 use denote.Enum.Declared.{tagOf}
 use types.Run.{OneOf}
 use Rattle.wire.specs.Orders.{byBytes}
@@ -37,8 +37,10 @@ use Rattle.stack.proofs.Walks.{shown-more}
 use Rattle.layers.proofs.Others.{other-child}
 use Rattle.merge.specs.Pile.{rowsOf, merged, itself}
 use Rattle.merge.specs.Sources.{Given, decided, listRows}
-use Rattle.merge.specs.Merges.{sourcesOf, Whole, NoSources, listsIf, Pushes}
+use Rattle.merge.specs.Merges.{sourcesOf, Whole, NoSources, howMany, rowsIn, listsIf, Pushes}
 use Rattle.merge.specs.declared.merge.Sources.{Sources}
+use Rattle.merge.specs.declared.merge.AtMostTwo.{AtMostTwo}
+use Rattle.merge.proofs.Merging.{many-rows}
 use Rattle.merge.proofs.Piles.{pile-merged}
 use Rattle.merge.proofs.Lists.{Deciding, pileRows, pile-ascends, rows-append, sourceOf, list-are}
 use Rattle.keep.specs.Below.{inodeGiven, Leads}
@@ -93,6 +95,10 @@ pub record Leading (img : List ℕ) (s : InodeLayerStack) (all : Sources) (i : �
   pub maps : List Deciding
   pub are : sourcesOf img all ≡ pileRows maps
   pub same : (k : Text) → shown (child k) img s ≡ leadOr k maps (shownUnder (child k) img s i)
+
+pub one-list : (img : List ℕ) (o : OptionPart) (f : AtMostTwo) → rowsIn img f ≡ listsIf img U.Inode o → howMany f ≤ 1
+one-list img (P.Some p) f e = omega (arith, many-rows img f, ap length e)
+one-list img P.None f e = omega (arith, many-rows img f, ap length e)
 
 leads-of : {img : List ℕ} {s : InodeLayerStack} {all : Sources} → Whole all → (maps : List Deciding) → sourcesOf img all ≡ pileRows maps
     → ((k : Text) → shown (child k) img s ≡ leadOr k maps none) → Leads img s all

@@ -1,32 +1,34 @@
 // What names lead to in a stack, all at once: its lists as sources, the topmost first.
-ghost use Prim.Native.Nat.{_<_};
+ghost use mathlib.Core.Path.{_≡_};
 ghost use mathlib.Core.List.{[], _∷_};
 ghost use Rattle.image.specs.declared.name.Under.the-variants as U;
 ghost use Rattle.stack.specs.Stacks.{Stacked};
 ghost use Rattle.merge.specs.Sources.{listRows};
-ghost use Rattle.merge.specs.Merges.{Whole, Pushes};
+ghost use Rattle.merge.specs.Merges.{rowsIn};
 ghost use Rattle.keep.specs.Below.{Leads};
 use deltas::delta::DirectoryDelta;
 use deltas::delta::EntryDelta;
 use deltas::delta::NodeDelta;
 use image::name::Under;
 use lookup::child::base_entries;
+use merge::merge::AtMostTwo;
 use merge::merge::Sources;
+use merge::merge::list_if;
 use merge::merge::no_sources;
-use merge::merge::push_list;
-use merge::merge::push_list_if;
+use merge::merge::push_lists;
+use merge::source::source_at;
 use stack::stack::record_at;
 use survey::batch::InodeLayerStack;
 
 // A child lookup asks what a delta removes before what it adds.
-fn push_directory(img: &[u8], all: Sources, directory: DirectoryDelta) -> Sources
-    requires { ⌜ Whole all × (all .count < 34) ⌝ }
-    ensures { λ r. ⌜ Pushes (now (img .entry)) all (listRows (now (img .entry)) U.Nothing (directory .removed .start) ∷ (listRows (now (img .entry)) U.Inode (directory .added .start) ∷ [])) r ⌝ }
+fn directory_lists(img: &[u8], directory: DirectoryDelta) -> AtMostTwo
+    ensures { λ r. ⌜ rowsIn (now (img .entry)) r ≡ listRows (now (img .entry)) U.Nothing (directory .removed .start) ∷ (listRows (now (img .entry)) U.Inode (directory .added .start) ∷ []) ⌝ }
 {
     let added = directory.added;
     let removed = directory.removed;
-    let over = push_list(img, all, removed, Under::Nothing);
-    push_list(img, over, added, Under::Inode)
+    let over = source_at(img, removed.start, Under::Nothing);
+    let under = source_at(img, added.start, Under::Inode);
+    AtMostTwo::Two { over, under }
 }
 
 // The names that lead somewhere: down to a tombstone, another kind or the base.
@@ -45,7 +47,7 @@ pub fn names_in(img: &[u8], stack: InodeLayerStack) -> Sources
         let NodeDelta::Directory(directory) = delta else {
             return all;
         };
-        all = push_directory(img, all, directory);
+        all = push_lists(all, directory_lists(img, directory));
     }
-    push_list_if(img, all, base_entries(img, stack), Under::Inode)
+    push_lists(all, list_if(img, base_entries(img, stack), Under::Inode))
 }

@@ -13,13 +13,14 @@ use Rattle.wire.specs.declared.order.Ordering.the-variants.{Less, Equal, Greate
 use Rattle.wire.specs.Orders.{byBytes}
 use Rattle.wire.specs.Reading.{part}
 use Rattle.image.specs.Meaning.{Text}
-use Rattle.image.specs.declared.name.Under.{Under}
 use Rattle.merge.specs.Pile.{pass, passAll, first, upper, least}
-use Rattle.merge.specs.Sources.{Decided, rowsFrom, listRows, sourceRows, rowAt, rowsIfMore, NoRow, Inside, HeadOf, ListOf}
-use Rattle.merge.specs.Merges.{sourcesOf, Whole, NoSources, withSource, rowIf, headRow, Pushes, Upper, Least, Passed, PassedAll}
+use Rattle.merge.specs.Sources.{Decided, rowsFrom, sourceRows, rowAt, rowsIfMore, NoRow, Inside, HeadOf}
+use Rattle.merge.specs.Merges.{sourcesOf, Whole, NoSources, withSource, withLists, howMany, rowsIn, rowIf, headRow, Pushes, Upper, Least, Passed, PassedAll}
 use Rattle.merge.specs.declared.source.Source.{Source}
 use Rattle.merge.specs.declared.source.Head.{Head}
 use Rattle.merge.specs.declared.merge.Sources.{Sources}
+use Rattle.merge.specs.declared.merge.AtMostTwo.{AtMostTwo}
+use Rattle.merge.specs.declared.merge.AtMostTwo.the-variants as F
 use Rattle.merge.proofs.Sourced.{no-row-inside}
 
 -- ---- no source, and one more
@@ -44,22 +45,35 @@ module _ {img : List ℕ} {all : Sources} where
   pub push-none : Whole all → Pushes img all [] all
   push-none w = record { are = sym (append-nil (sourcesOf img all)); more = omega arith; whole = w }
 
-  pub push-one : {u : Under} {p : ℕ} {s : Source} {r : Sources} → Whole all → all .count < 35 → ListOf img u p s → r ≡ withSource all s → Pushes img all (listRows img u p ∷ []) r
-  push-one {u} {p} {s} {r} w h l e =
-      rw e (record { are = pushed-sources w h img s ∙ rw (l .are); more = omega arith; whole = pushed-whole w h s })
+  push-one : (s : Source) → Whole all → all .count < 35 → Pushes img all (sourceRows img s ∷ []) (withSource all s)
+  push-one s w h = record { are = pushed-sources w h img s; more = omega arith; whole = pushed-whole w h s }
 
-  pub push-both : {over : Sources} {xs ys : List (List Decided)} {r : Sources} → Pushes img all xs over → Pushes img over ys r → Pushes img all (xs ++ ys) r
+  push-both : {over : Sources} {xs ys : List (List Decided)} {r : Sources} → Pushes img all xs over → Pushes img over ys r → Pushes img all (xs ++ ys) r
   push-both {over} {xs} {ys} p q = record {
     are = q .are ∙ rw (p .are) (append-assoc (sourcesOf img all) xs ys);
     more = omega (arith, p .more, q .more, length-append xs ys);
     whole = q .whole;
   }
 
-pub push-two : {img : List ℕ} {all over : Sources} {u v : Under} {p q : ℕ} {s t : Source} {r : Sources} → Whole all → all .count < 34 → ListOf img u p s → ListOf img v q t → over ≡ withSource all s → r ≡ withSource over t
-    → Pushes img all (listRows img u p ∷ (listRows img v q ∷ [])) r
-push-two w h l k e d =
-    let o = push-one w (omega arith) l e in
-    push-both o (push-one (o .whole) (omega (arith, o .more)) k d)
+pub many-two : (f : AtMostTwo) → howMany f ≤ 2
+many-two F.None = omega arith
+many-two (F.One s) = omega arith
+many-two (F.Two s t) = omega arith
+
+pub many-rows : (img : List ℕ) (f : AtMostTwo) → length (rowsIn img f) ≡ howMany f
+many-rows img F.None = refl
+many-rows img (F.One s) = refl
+many-rows img (F.Two s t) = refl
+
+pub push-lists : {img : List ℕ} {all : Sources} (f : AtMostTwo) {lists : List (List Decided)} {r : Sources} → Whole all → all .count + howMany f ≤ 35 → rowsIn img f ≡ lists → r ≡ withLists all f → Pushes img all lists r
+push-lists {img} {all} f {lists} {r} w h e d = rw (d, ← e) (go f h)
+  where
+    go : (f : AtMostTwo) → all .count + howMany f ≤ 35 → Pushes img all (rowsIn img f) (withLists all f)
+    go F.None h = push-none w
+    go (F.One s) h = push-one s w (omega arith)
+    go (F.Two s t) h =
+        let o = push-one {img = img} s w (omega arith) in
+        push-both o (push-one t (o .whole) (omega (arith, o .more)))
 
 -- ---- of two rows
 

@@ -19,6 +19,8 @@ use Rattle.merge.specs.Sources.{Given, Decided, listRows, sourceRows, ro
 use Rattle.merge.specs.declared.source.Source.{Source}
 use Rattle.merge.specs.declared.source.Head.{Head}
 use Rattle.merge.specs.declared.merge.Sources.{Sources}
+use Rattle.merge.specs.declared.merge.AtMostTwo.{AtMostTwo}
+use Rattle.merge.specs.declared.merge.AtMostTwo.the-variants as F
 use Rattle.merge.specs.declared.merge.Merge.{Merge}
 use Rattle.merge.specs.declared.merge.Counted.{Counted}
 use Rattle.merge.specs.declared.merge.Counted.the-variants as C
@@ -44,7 +46,23 @@ abbrev pub listsIf : List ℕ → Under → OptionPart → List (List Decided)
 listsIf img u (P.Some p) = listRows img u (p .start) ∷ []
 listsIf img u P.None = []
 
--- sources more, beneath the others
+-- at most two lists: how many, their rows, and sources with them beneath
+abbrev pub howMany : AtMostTwo → ℕ
+howMany F.None = 0
+howMany (F.One s) = 1
+howMany (F.Two s t) = 2
+
+abbrev pub rowsIn : List ℕ → AtMostTwo → List (List Decided)
+rowsIn img F.None = []
+rowsIn img (F.One s) = sourceRows img s ∷ []
+rowsIn img (F.Two s t) = sourceRows img s ∷ (sourceRows img t ∷ [])
+
+abbrev pub withLists : Sources → AtMostTwo → Sources
+withLists all F.None = all
+withLists all (F.One s) = withSource all s
+withLists all (F.Two s t) = withSource (withSource all s) t
+
+-- lists more, beneath the others
 pub record Pushes (img : List ℕ) (all : Sources) (lists : List (List Decided)) (r : Sources) : Type 0 where
   pub are : sourcesOf img r ≡ sourcesOf img all ++ lists
   pub more : r .count ≡ all .count + length lists

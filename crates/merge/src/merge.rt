@@ -1,10 +1,8 @@
 // The merge of sources: the least name goes first, as the topmost source that has it says, and then the rest.
-ghost use Prim.Native.Nat.{_<_};
+ghost use Prim.Native.Nat.{_+_, _≤_, _<_};
 ghost use lib.ListN.{length};
 ghost use mathlib.Core.Path.{_≡_};
-ghost use mathlib.Core.List.{[], _∷_};
-ghost use Rattle.merge.specs.Sources.{listRows};
-ghost use Rattle.merge.specs.Merges.{Whole, NoSources, withSource, listsIf, Pushes, Upper, Least, Passed, PassedAll, Ready, mergeRows, Settles, countOf};
+ghost use Rattle.merge.specs.Merges.{Whole, NoSources, howMany, withSource, withLists, listsIf, rowsIn, Upper, Least, Passed, PassedAll, Ready, mergeRows, Settles, countOf};
 use crate::source::Head;
 use crate::source::Source;
 use crate::source::head_of;
@@ -23,6 +21,13 @@ use wire::part::part;
 pub struct Sources {
     pub rows: [Source; 35],
     pub count: usize,
+}
+
+// The lists of a record or of a node, the upper first.
+pub enum AtMostTwo {
+    None,
+    One(Source),
+    Two { over: Source, under: Source },
 }
 
 // The first name that is given, with its start, inode and value, and the sources past it; or that no more is given.
@@ -61,22 +66,25 @@ pub fn push_source(all: Sources, source: Source) -> Sources
     out
 }
 
-// The list at a part of the image, beneath the others.
-pub fn push_list(img: &[u8], all: Sources, list: Part, what: Under) -> Sources
-    requires { ⌜ Whole all × (all .count < 35) ⌝ }
-    ensures { λ r. ⌜ Pushes (now (img .entry)) all (listRows (now (img .entry)) what (list .start) ∷ []) r ⌝ }
+// Lists more, beneath the others.
+pub fn push_lists(all: Sources, lists: AtMostTwo) -> Sources
+    requires { ⌜ (all .count + howMany lists ≤ 35) × (length (all .rows) ≡ 35) ⌝ }
+    ensures { λ r. ⌜ r ≡ withLists all lists ⌝ }
 {
-    push_source(all, source_at(img, list.start, what))
+    match lists {
+        AtMostTwo::None => all,
+        AtMostTwo::One(source) => push_source(all, source),
+        AtMostTwo::Two { over, under } => push_source(push_source(all, over), under),
+    }
 }
 
-// The same, if there is a list.
-pub fn push_list_if(img: &[u8], all: Sources, option: OptionPart, what: Under) -> Sources
-    requires { ⌜ Whole all × (all .count < 35) ⌝ }
-    ensures { λ r. ⌜ Pushes (now (img .entry)) all (listsIf (now (img .entry)) what option) r ⌝ }
+// The list at a part of the image, if there is one.
+pub fn list_if(img: &[u8], option: OptionPart, what: Under) -> AtMostTwo
+    ensures { λ r. ⌜ rowsIn (now (img .entry)) r ≡ listsIf (now (img .entry)) what option ⌝ }
 {
     match option {
-        OptionPart::Some(list) => push_list(img, all, list, what),
-        OptionPart::None => all,
+        OptionPart::Some(list) => AtMostTwo::One(source_at(img, list.start, what)),
+        OptionPart::None => AtMostTwo::None,
     }
 }
 
