@@ -147,7 +147,7 @@ fn parent_in(img: &[u8], stack: InodeLayerStack) -> OptionU64
 }
 
 // From the top: the first symlink delta with a target; a tombstone or another kind, none; then a base symlink's.
-fn link_in(img: &[u8], stack: InodeLayerStack) -> OptionPart
+pub fn link_in(img: &[u8], stack: InodeLayerStack) -> OptionPart
     requires { ⌜ Stacked (now img) stack ⌝ }
     ensures { λ r. ⌜ textMeant (now (img .entry)) r ≡ shown linkText (now (img .entry)) stack ⌝ }
 {

@@ -130,9 +130,9 @@ module _ {img : List ℕ} {room : ℕ} {p : Plan} (h : Fits img room p) where
       l = mergeRows img (p .merge)
 
       go : (a : RowsAnswer) → length (map entryOf l) ≡ countIn a → Filled (answerOf a l) old (filledTo (map entryOf l) old (countIn a)) a
-      go (A.Refused n) e = record { answers = refl; rows = refl }
-      go A.None e = record { answers = refl; rows = refl }
+      go (A.Refused n) e = record { answers = refl; count = refl; rows = refl }
+      go A.None e = record { answers = refl; count = refl; rows = refl }
       go (A.Rows n) e =
           let es = map entryOf l in
           let w : take n es ≡ es = rw (sym e) (take-length es) in
-          record { answers = rw (w, sym e, take-append-seam es (drop (length es) old)); rows = rw (w, sym e) }
+          record { answers = rw (w, sym e, take-append-seam es (drop (length es) old)); count = sym e ∙ length-map l entryOf; rows = rw (w, sym e) }

@@ -93,7 +93,13 @@ pub record Advances (img : List ℕ) (p r : Plan) : Type 0 where
   pub rows : mergeRows img (r .merge) ≡ decidedRows img (p .merge .all)
   pub ready : Ready img (r .merge .all)
 
--- the answer, with the rows as they are after the call
+abbrev pub rowCount : Answer (Option (List Row)) → ℕ
+rowCount (refused n) = 0
+rowCount (answer none) = 0
+rowCount (answer (some l)) = length l
+
+-- the answer, which says how many rows it fills, with the rows as they are after the call: "Rows past the last stay."
 pub record Filled (w : Answer (Option (List Row))) (old new : List Entry) (a : RowsAnswer) : Type 0 where
   pub answers : rowsAnswered new a ≡ inEntries w
+  pub count : countIn a ≡ rowCount w
   pub rows : new ≡ filled (inEntries w) old

@@ -40,6 +40,7 @@ fn lists_of(listing: Listing) -> Lists
 }
 
 // A row of a listing: where the name starts in the image, its length, and the inode; 0 for an attribute.
+#[repr(C)]
 pub struct Entry {
     pub start: usize,
     pub length: usize,

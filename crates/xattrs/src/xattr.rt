@@ -67,7 +67,7 @@ pub fn has_xattr(img: &[u8], ino: u64, name: &[u8]) -> YesNo
 }
 
 // From the top: the first record that names the attribute decides, then the base.
-fn xattr_in(img: &[u8], stack: InodeLayerStack, name: &[u8]) -> OptionPart
+pub fn xattr_in(img: &[u8], stack: InodeLayerStack, name: &[u8]) -> OptionPart
     requires { ⌜ Stacked (now img) stack ⌝ }
     ensures { λ r. ⌜ textMeant (now (img .entry)) r ≡ shown (attribute (now (name .entry))) (now (img .entry)) stack ⌝ }
 {
