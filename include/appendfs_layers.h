@@ -20,7 +20,7 @@
  *       or over the target
  *    6  freeze: the queue is at a limit
  *
- * Link with libffi.a; it needs nothing else.
+ * Link with libffi.a; it needs memcpy, memmove and memset, and nothing else.
  */
 #ifndef APPENDFS_LAYERS_H
 #define APPENDFS_LAYERS_H
