@@ -1,6 +1,11 @@
 // The calls that change the records of a layer. Each writes the new image to the target, or refuses and writes nothing.
+ghost use lib.ListN.{length};
+ghost use Rattle.rules.specs.Initial.{usual};
+ghost use Rattle.rules.specs.ChangeCalls.{insertNewNode, tombstone as tombstoned, addDirEntry, removeDirEntry, updateDirParent, updateAttrDelta, normalizeDirectoryDeltas};
+ghost use Rattle.ffi.specs.Replies.{ChangeReplies, timeGiven};
 use crate::reply::ChangeReply;
 use crate::reply::change_reply;
+use crate::reply::time_given;
 use directory::directory::add_dir_entry;
 use directory::directory::remove_dir_entry;
 use directory::directory::update_dir_parent;
@@ -8,7 +13,6 @@ use normalize::normalize::normalize_directory_deltas;
 use overlay::live::insert_new_node;
 use overlay::live::tombstone;
 use update::update::update_attr_delta;
-use wire::time::Time;
 
 // Puts a record, given from its code on, in the place of the live one.
 #[no_mangle]
@@ -17,13 +21,17 @@ pub extern "C" fn appendfs_insert_new_node(
     ino: u64,
     delta: &[u8],
     target: &mut [u8],
-) -> ChangeReply {
+) -> ChangeReply
+    ensures { λ r. ⌜ ChangeReplies (insertNewNode usual (now (img .entry)) ino (now (delta .entry)) (length (now (target .entry)))) (now (target .entry)) r (now (target .exit)) ⌝ }
+{
     change_reply(insert_new_node(img, ino, delta, target))
 }
 
 // Puts a tombstone in the place of the live record.
 #[no_mangle]
-pub extern "C" fn appendfs_tombstone(img: &[u8], ino: u64, target: &mut [u8]) -> ChangeReply {
+pub extern "C" fn appendfs_tombstone(img: &[u8], ino: u64, target: &mut [u8]) -> ChangeReply
+    ensures { λ r. ⌜ ChangeReplies (tombstoned usual (now (img .entry)) ino (length (now (target .entry)))) (now (target .entry)) r (now (target .exit)) ⌝ }
+{
     change_reply(tombstone(img, ino, target))
 }
 
@@ -37,8 +45,10 @@ pub extern "C" fn appendfs_add_dir_entry(
     seconds: i64,
     nanos: u32,
     target: &mut [u8],
-) -> ChangeReply {
-    let time = Time { seconds, nanos };
+) -> ChangeReply
+    ensures { λ r. ⌜ ChangeReplies (addDirEntry usual (now (img .entry)) ino (now (name .entry)) inode (timeGiven seconds nanos) (length (now (target .entry)))) (now (target .entry)) r (now (target .exit)) ⌝ }
+{
+    let time = time_given(seconds, nanos);
     change_reply(add_dir_entry(img, ino, name, inode, time, target))
 }
 
@@ -51,8 +61,10 @@ pub extern "C" fn appendfs_remove_dir_entry(
     seconds: i64,
     nanos: u32,
     target: &mut [u8],
-) -> ChangeReply {
-    let time = Time { seconds, nanos };
+) -> ChangeReply
+    ensures { λ r. ⌜ ChangeReplies (removeDirEntry usual (now (img .entry)) ino (now (name .entry)) (timeGiven seconds nanos) (length (now (target .entry)))) (now (target .entry)) r (now (target .exit)) ⌝ }
+{
+    let time = time_given(seconds, nanos);
     change_reply(remove_dir_entry(img, ino, name, time, target))
 }
 
@@ -63,7 +75,9 @@ pub extern "C" fn appendfs_update_dir_parent(
     ino: u64,
     parent: u64,
     target: &mut [u8],
-) -> ChangeReply {
+) -> ChangeReply
+    ensures { λ r. ⌜ ChangeReplies (updateDirParent usual (now (img .entry)) ino parent (length (now (target .entry)))) (now (target .entry)) r (now (target .exit)) ⌝ }
+{
     change_reply(update_dir_parent(img, ino, parent, target))
 }
 
@@ -74,7 +88,9 @@ pub extern "C" fn appendfs_update_attr_delta(
     ino: u64,
     delta: &[u8],
     target: &mut [u8],
-) -> ChangeReply {
+) -> ChangeReply
+    ensures { λ r. ⌜ ChangeReplies (updateAttrDelta usual (now (img .entry)) ino (now (delta .entry)) (length (now (target .entry)))) (now (target .entry)) r (now (target .exit)) ⌝ }
+{
     change_reply(update_attr_delta(img, ino, delta, target))
 }
 
@@ -84,6 +100,8 @@ pub extern "C" fn appendfs_normalize_directory_deltas(
     img: &[u8],
     position: u64,
     target: &mut [u8],
-) -> ChangeReply {
+) -> ChangeReply
+    ensures { λ r. ⌜ ChangeReplies (normalizeDirectoryDeltas usual (now (img .entry)) position (length (now (target .entry)))) (now (target .entry)) r (now (target .exit)) ⌝ }
+{
     change_reply(normalize_directory_deltas(img, position, target))
 }

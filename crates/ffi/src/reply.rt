@@ -1,4 +1,11 @@
 // What the exported calls answer. In each, `refusal` is the number of the refusal, 0 for none.
+ghost use mathlib.Core.Path.{_≡_};
+ghost use Rattle.image.specs.Meaning.{kindNumber};
+ghost use Rattle.rules.specs.Answers.{answer};
+ghost use Rattle.nodes.specs.Options.{textOf as textMeant};
+ghost use Rattle.attrs.specs.Meant.{kindMeant, attrMeant};
+ghost use Rattle.layers.specs.Answered.{yesNo, typeAnswered, inodeAnswered, attrAnswered};
+ghost use Rattle.ffi.specs.Replies.{yesNoReply, typeReply, inodeReply, timeOut, attrOut, noAttr, attrReply, noText, TextReplies, timeGiven, replyOf};
 use attrs::node::FileAttr;
 use attrs::node::FileType;
 use change::answer::ChangeAnswer;
@@ -75,7 +82,9 @@ pub struct ChangeReply {
     pub length: usize,
 }
 
-pub fn yes_no_reply(answer: YesNo) -> YesNoReply {
+pub fn yes_no_reply(answer: YesNo) -> YesNoReply
+    ensures { λ r. ⌜ r ≡ yesNoReply (yesNo answer) ⌝ }
+{
     match answer {
         YesNo::Refused(refusal) => YesNoReply {
             refusal,
@@ -93,7 +102,9 @@ pub fn yes_no_reply(answer: YesNo) -> YesNoReply {
 }
 
 // "kind 0 to 6", in the order of document 01.
-fn kind_number(kind: FileType) -> u32 {
+fn kind_number(kind: FileType) -> u32
+    ensures { λ r. ⌜ r ≡ kindNumber (kindMeant kind) ⌝ }
+{
     match kind {
         FileType::Directory => 0,
         FileType::RegularFile => 1,
@@ -105,7 +116,9 @@ fn kind_number(kind: FileType) -> u32 {
     }
 }
 
-pub fn type_reply(answer: TypeAnswer) -> TypeReply {
+pub fn type_reply(answer: TypeAnswer) -> TypeReply
+    ensures { λ r. ⌜ r ≡ typeReply (typeAnswered answer) ⌝ }
+{
     match answer {
         TypeAnswer::Refused(refusal) => TypeReply {
             refusal,
@@ -125,7 +138,9 @@ pub fn type_reply(answer: TypeAnswer) -> TypeReply {
     }
 }
 
-pub fn inode_reply(answer: InodeAnswer) -> InodeReply {
+pub fn inode_reply(answer: InodeAnswer) -> InodeReply
+    ensures { λ r. ⌜ r ≡ inodeReply (inodeAnswered answer) ⌝ }
+{
     match answer {
         InodeAnswer::Refused(refusal) => InodeReply {
             refusal,
@@ -145,14 +160,18 @@ pub fn inode_reply(answer: InodeAnswer) -> InodeReply {
     }
 }
 
-fn time_out(time: Time) -> Timestamp {
+fn time_out(time: Time) -> Timestamp
+    ensures { λ r. ⌜ r ≡ timeOut time ⌝ }
+{
     Timestamp {
         seconds: time.seconds,
         nanos: time.nanos,
     }
 }
 
-fn attr_out(attr: FileAttr) -> Attr {
+fn attr_out(attr: FileAttr) -> Attr
+    ensures { λ r. ⌜ r ≡ attrOut (attrMeant attr) ⌝ }
+{
     let kind = attr.file_type;
     let atime = attr.atime;
     let mtime = attr.mtime;
@@ -173,7 +192,9 @@ fn attr_out(attr: FileAttr) -> Attr {
 }
 
 // All fields 0.
-fn no_attr(refusal: u32) -> AttrReply {
+fn no_attr(refusal: u32) -> AttrReply
+    ensures { λ r. ⌜ r ≡ noAttr refusal ⌝ }
+{
     let epoch = Timestamp {
         seconds: 0,
         nanos: 0,
@@ -198,7 +219,9 @@ fn no_attr(refusal: u32) -> AttrReply {
     }
 }
 
-pub fn attr_reply(answer: AttrAnswer) -> AttrReply {
+pub fn attr_reply(answer: AttrAnswer) -> AttrReply
+    ensures { λ r. ⌜ r ≡ attrReply (attrAnswered answer) ⌝ }
+{
     match answer {
         AttrAnswer::Refused(refusal) => no_attr(refusal),
         AttrAnswer::None => no_attr(0),
@@ -211,7 +234,9 @@ pub fn attr_reply(answer: AttrAnswer) -> AttrReply {
 }
 
 // The empty part.
-pub fn no_text(refusal: u32) -> TextReply {
+pub fn no_text(refusal: u32) -> TextReply
+    ensures { λ r. ⌜ r ≡ noText refusal ⌝ }
+{
     TextReply {
         refusal,
         found: false,
@@ -220,7 +245,9 @@ pub fn no_text(refusal: u32) -> TextReply {
     }
 }
 
-pub fn text_reply(img: &[u8], text: OptionPart) -> TextReply {
+pub fn text_reply(img: &[u8], text: OptionPart) -> TextReply
+    ensures { λ r. ⌜ TextReplies (now (img .entry)) (answer (textMeant (now (img .entry)) text)) r ⌝ }
+{
     let OptionPart::Some(place) = text else {
         return no_text(0);
     };
@@ -238,7 +265,16 @@ pub fn text_reply(img: &[u8], text: OptionPart) -> TextReply {
     }
 }
 
-pub fn change_reply(answer: ChangeAnswer) -> ChangeReply {
+// The time that a call is given.
+pub fn time_given(seconds: i64, nanos: u32) -> Time
+    ensures { λ r. ⌜ r ≡ timeGiven seconds nanos ⌝ }
+{
+    Time { seconds, nanos }
+}
+
+pub fn change_reply(answer: ChangeAnswer) -> ChangeReply
+    ensures { λ r. ⌜ r ≡ replyOf answer ⌝ }
+{
     match answer {
         ChangeAnswer::Refused(refusal) => ChangeReply { refusal, length: 0 },
         ChangeAnswer::Length(length) => ChangeReply { refusal: 0, length },

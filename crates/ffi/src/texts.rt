@@ -1,8 +1,11 @@
 // The texts of an inode, each as a part of the image: a link's text, an attribute's value.
 ghost use mathlib.Core.Path.{_≡_};
+ghost use Rattle.rules.specs.Initial.{usual};
 ghost use Rattle.rules.specs.Reads.{linkText};
+ghost use Rattle.rules.specs.ReadCalls.{readLink, getXattr};
 ghost use Rattle.nodes.specs.Options.{textOf as textMeant};
 ghost use Rattle.stack.specs.Stacks.{Stacked, shown};
+ghost use Rattle.ffi.specs.Replies.{TextReplies};
 use crate::reply::TextReply;
 use crate::reply::no_text;
 use crate::reply::text_reply;
@@ -20,7 +23,9 @@ use survey::batch::InodeLayerStack;
 
 // The text of a link.
 #[no_mangle]
-pub extern "C" fn appendfs_read_link(img: &[u8], ino: u64) -> TextReply {
+pub extern "C" fn appendfs_read_link(img: &[u8], ino: u64) -> TextReply
+    ensures { λ r. ⌜ TextReplies (now (img .entry)) (readLink usual (now (img .entry)) ino) r ⌝ }
+{
     let opened = open_image(img, ino);
     let refusal = opened.refusal;
     if refusal != 0 {
@@ -32,7 +37,9 @@ pub extern "C" fn appendfs_read_link(img: &[u8], ino: u64) -> TextReply {
 
 // The value of an extended attribute.
 #[no_mangle]
-pub extern "C" fn appendfs_get_xattr(img: &[u8], ino: u64, name: &[u8]) -> TextReply {
+pub extern "C" fn appendfs_get_xattr(img: &[u8], ino: u64, name: &[u8]) -> TextReply
+    ensures { λ r. ⌜ TextReplies (now (img .entry)) (getXattr usual (now (img .entry)) ino (now (name .entry))) r ⌝ }
+{
     let opened = open_named(img, ino, name);
     let refusal = opened.refusal;
     if refusal != 0 {
