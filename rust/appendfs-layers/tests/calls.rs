@@ -108,20 +108,20 @@ fn an_empty_text_is_not_none() {
 #[test]
 fn each_kind_of_node() {
     let kinds = [
-        (&[1, 0, 0, 0, 0][..], FileType::Directory, 0o755, 2),
-        (&[2, 0, 0][..], FileType::RegularFile, 0o644, 1),
-        (&[3, 0, 0][..], FileType::Symlink, 0o777, 1),
-        (&[4, 0, 0][..], FileType::NamedPipe, 0o644, 1),
-        (&[5, 0, 7][..], FileType::CharDevice, 0o660, 1),
-        (&[6, 0, 7][..], FileType::BlockDevice, 0o660, 1),
-        (&[7, 0, 0][..], FileType::Socket, 0o777, 1),
+        (&[1, 0, 0, 0, 0][..], FileType::Directory, 0o755, 2, 0),
+        (&[2, 0, 0][..], FileType::RegularFile, 0o644, 1, 0),
+        (&[3, 0, 0][..], FileType::Symlink, 0o777, 1, 0),
+        (&[4, 0, 0][..], FileType::NamedPipe, 0o644, 1, 0),
+        (&[5, 0, 7][..], FileType::CharDevice, 0o660, 1, 7),
+        (&[6, 0, 8][..], FileType::BlockDevice, 0o660, 1, 8),
+        (&[7, 0, 0][..], FileType::Socket, 0o777, 1, 0),
     ];
-    for (delta, kind, perm, links) in kinds {
+    for (delta, kind, perm, links, device) in kinds {
         let mut s = Store::new(&EMPTY);
         s.change(|i, t| i.insert_new_node(5, delta, t)).unwrap();
         assert_eq!(s.image().file_type(5), Ok(Some(kind)));
         let a = s.image().attr(5).unwrap().unwrap();
-        assert_eq!((a.ino, a.file_type, a.perm, a.nlink), (5, kind, perm, links));
+        assert_eq!((a.ino, a.file_type, a.perm, a.nlink, a.rdev), (5, kind, perm, links, device));
     }
 }
 
