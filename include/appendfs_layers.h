@@ -20,7 +20,8 @@
  *       or over the target
  *    6  freeze: the queue is at a limit
  *
- * Link with libffi.a; it needs memcpy, memmove and memset, and nothing else.
+ * Link with libffi.a; it needs memcpy, memmove and memset, and nothing else. A call needs some tens of KiB of stack (docs/DECISIONS.md,
+ * "Scratch").
  */
 #ifndef APPENDFS_LAYERS_H
 #define APPENDFS_LAYERS_H

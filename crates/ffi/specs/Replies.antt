@@ -50,9 +50,11 @@ inodeReply (answer (some i)) = record { refusal = 0; found = true; inode = i }
 
 -- ---- attributes
 
+-- "A time is seconds (signed 64 bits), then nanoseconds"
 abbrev pub timeOut : Time → Timestamp
 timeOut t = record { seconds = t .seconds; nanos = t .nanos }
 
+-- what the attributes' definition shows: type, permission, links, owner, group, device number, size and times
 abbrev pub attrOut : FileAttr → Attr
 attrOut a = record {
   ino = a .inode;
@@ -79,6 +81,7 @@ noAttr n = record {
   attr = record { ino = 0; kind = 0; perm = 0; nlink = 0; uid = 0; gid = 0; rdev = 0; size = 0; atime = epoch; mtime = epoch; ctime = epoch };
 }
 
+-- "a tombstone clears": no attributes is an answer
 abbrev pub attrReply : Answer (Option FileAttr) → AttrReply
 attrReply (refused n) = noAttr n
 attrReply (answer none) = noAttr 0
@@ -90,6 +93,7 @@ attrReply (answer (some a)) = record { refusal = 0; found = true; attr = attrOut
 abbrev pub noText : ℕ → TextReply
 noText n = record { refusal = n; found = false; start = 0; «length» = 0 }
 
+-- "'None' is an answer."
 abbrev pub isFound : {A : Type 0} → Answer (Option A) → Bool
 isFound (refused n) = false
 isFound (answer o) = isThere o

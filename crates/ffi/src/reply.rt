@@ -245,6 +245,7 @@ pub fn no_text(refusal: u32) -> TextReply
     }
 }
 
+// Of a text that is empty the place says nothing: it is the part at 0.
 pub fn text_reply(img: &[u8], text: OptionPart) -> TextReply
     ensures { λ r. ⌜ TextReplies (now (img .entry)) (answer (textMeant (now (img .entry)) text)) r ⌝ }
 {

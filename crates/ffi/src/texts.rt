@@ -49,7 +49,7 @@ pub extern "C" fn appendfs_get_xattr(img: &[u8], ino: u64, name: &[u8]) -> TextR
     text_reply(img, xattr_in(img, stack, name))
 }
 
-// From the top: the first symlink delta with a target; a tombstone or another kind, none; then a base symlink's.
+// As in `layers`, whose call answers the bytes and not their place. From the top: the first symlink delta with a target; a tombstone or another kind, none; then a base symlink's.
 fn link_in(img: &[u8], stack: InodeLayerStack) -> OptionPart
     requires { ⌜ Stacked (now img) stack ⌝ }
     ensures { λ r. ⌜ textMeant (now (img .entry)) r ≡ shown linkText (now (img .entry)) stack ⌝ }

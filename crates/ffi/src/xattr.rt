@@ -1,4 +1,4 @@
-// The place of an extended attribute's value.
+// The place of an extended attribute's value. As in `lookup`, whose call answers the bytes and not their place.
 ghost use Prim.Native.Nat.{_<_};
 ghost use mathlib.Core.Path.{_≡_};
 ghost use Rattle.rules.specs.Reads.{attribute};
