@@ -17,7 +17,7 @@
  *    3  name empty or over 255 bytes            9  pop: not the id of the front batch
  *    4  delta, time or reason not right        10  freeze: no next id; note: a count would pass 2^32 - 1
  *    5  no room: new image over 65,536 bytes   11  normalise: position above the number of batches
- *       or over the target
+ *       or over the target; rows too few
  *    6  freeze: the queue is at a limit
  *
  * Link with libffi.a; it needs memcpy, memmove and memset, and nothing else. A call needs some tens of KiB of stack (docs/DECISIONS.md,
@@ -127,6 +127,20 @@ typedef struct {
     size_t length;
 } appendfs_text;
 
+/* A row of a listing: where the name starts in the image that was given, its length, and the inode; 0 for an attribute. */
+typedef struct {
+    size_t start;
+    size_t length;
+    uint64_t inode;
+} appendfs_entry;
+
+/* How many of the rows lent were filled, from the first on. The rows behind them are as they were. */
+typedef struct {
+    uint32_t refusal;
+    bool found;
+    size_t count;
+} appendfs_rows;
+
 /* What a change answers: the length of the new image, which stands in the target. The target's bytes behind it are as they were. */
 typedef struct {
     uint32_t refusal;
@@ -161,6 +175,12 @@ appendfs_text appendfs_get_xattr(const uint8_t *img, size_t img_len, uint64_t in
 
 /* Whether there is such an attribute. */
 appendfs_yes_no appendfs_has_xattr(const uint8_t *img, size_t img_len, uint64_t ino, const uint8_t *name, size_t name_len);
+
+/* The names of a directory, rising by bytes. */
+appendfs_rows appendfs_list_directory(const uint8_t *img, size_t img_len, uint64_t ino, appendfs_entry *rows, size_t rows_len);
+
+/* The names of the extended attributes, rising by bytes. */
+appendfs_rows appendfs_list_xattrs(const uint8_t *img, size_t img_len, uint64_t ino, appendfs_entry *rows, size_t rows_len);
 
 /* ---- changes of the live layer */
 

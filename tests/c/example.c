@@ -70,6 +70,17 @@ static void read_all(const char *when) {
     expect(link.found && link.length == 6 && memcmp(image() + link.start, "offset", 6) == 0, "3 links to offset");
     expect(appendfs_has_link(image(), length, 3).yes && !appendfs_has_link(image(), length, 2).yes, "3 is a link, 2 is none");
 
+    appendfs_entry rows[2] = {{7, 7, 7}, {7, 7, 7}};
+    appendfs_rows names = appendfs_list_directory(image(), length, 1, rows, 2);
+    expect(names.refusal == 0 && names.found && names.count == 1, "the root has one entry");
+    expect(rows[0].inode == 2 && rows[0].length == 6 && memcmp(image() + rows[0].start, "offset", 6) == 0, "it is offset");
+    expect(rows[1].start == 7 && rows[1].length == 7 && rows[1].inode == 7, "the row behind it stays");
+    expect(appendfs_list_directory(image(), length, 1, rows, 0).refusal == APPENDFS_NO_ROOM, "no row is too few");
+    expect(!appendfs_list_directory(image(), length, 2, rows, 2).found, "a file has no listing");
+    names = appendfs_list_xattrs(image(), length, 2, rows, 2);
+    expect(names.found && names.count == 1 && rows[0].inode == 0 && rows[0].length == 10, "2 has one attribute");
+    expect(memcmp(image() + rows[0].start, "user.blade", 10) == 0, "it is user.blade");
+
     expect(appendfs_exists(image(), length, 2).yes && !appendfs_exists(image(), length, 9).yes, "2 exists, 9 doesn't");
     expect(appendfs_file_type(image(), length, 3).kind == APPENDFS_SYMLINK, "3 is a link");
     expect(appendfs_parent_dir_inode(image(), length, 1).inode == 1, "the parent of 1 is 1");

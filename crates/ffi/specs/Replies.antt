@@ -1,11 +1,12 @@
 -- What each reply says of the answer that a call's definition gives. Document 01: "A refusal gives its number, length 0 and, for a text, the
 -- empty part; target and rows stay." "'None' is an answer." A reply's `refusal` is 0 where there is none.
 use mathlib.Core.Path.{_≡_}
-use mathlib.Core.Bool.{Bool, true, false}
+use mathlib.Core.Bool.{Bool, true, false, cond}
 use mathlib.Core.List.{List}
 use mathlib.Core.Option.{Option, none, some}
 use Prim.Native.Nat.{ℕ, _+_, _≤_}
 use lib.IntN.{ℤ, pos}
+use lib.Dec.{ltb}
 use lib.ListN.{length}
 use Rattle.wire.specs.Reading.{part}
 use Rattle.wire.specs.declared.time.Time.{Time}
@@ -13,8 +14,12 @@ use Rattle.image.specs.Meaning.{Text, Kind, kindNumber}
 use Rattle.rules.specs.Answers.{Answer, refused, answer}
 use Rattle.rules.specs.FileAttrs.{FileAttr}
 use Rattle.rules.specs.Reads.{isThere}
-use Rattle.rules.specs.ReadCalls.{textOf}
+use Rattle.rules.specs.ReadCalls.{Row, textOf, filled}
 use Rattle.rules.specs.ChangeCalls.{written, lengthOf}
+use Rattle.layers.specs.declared.answer.RowsAnswer.{RowsAnswer}
+use Rattle.layers.specs.declared.answer.RowsAnswer.the-variants as Rows
+use Rattle.rows.specs.declared.listing.Entry.{Entry}
+use Rattle.rows.specs.Plans.{inEntries}
 use Rattle.change.specs.declared.answer.ChangeAnswer.{ChangeAnswer}
 use Rattle.change.specs.declared.answer.ChangeAnswer.the-variants as A
 use Rattle.ffi.specs.declared.reply.YesNoReply.{YesNoReply}
@@ -25,6 +30,7 @@ use Rattle.ffi.specs.declared.reply.Attr.{Attr}
 use Rattle.ffi.specs.declared.reply.AttrReply.{AttrReply}
 use Rattle.ffi.specs.declared.reply.TextReply.{TextReply}
 use Rattle.ffi.specs.declared.reply.ChangeReply.{ChangeReply}
+use Rattle.ffi.specs.declared.listings.RowsReply.{RowsReply}
 
 -- "A refusal gives its number"
 abbrev pub refusalOf : {A : Type 0} → Answer A → ℕ
@@ -106,6 +112,25 @@ pub record TextReplies (img : List ℕ) (def : Answer (Option Text)) (r : TextRe
   pub text : part img (r .start) (r .length) ≡ textOf def
   pub size : r .length ≡ length (textOf def)
   pub inside : r .start + r .length ≤ length img
+
+-- ---- rows
+
+-- what the enum's cases say, with so many rows lent
+abbrev pub countReply : RowsAnswer → ℕ → RowsReply
+countReply (Rows.Refused n) lent = record { refusal = n; found = false; count = 0 }
+countReply Rows.None lent = record { refusal = 0; found = false; count = 0 }
+countReply (Rows.Rows n) lent = record { refusal = 0; found = true; count = cond (ltb lent n) lent n }
+
+-- "A listing fills a lent row of entries": how many
+abbrev pub rowsReply : Answer (Option (List Row)) → RowsReply
+rowsReply (refused n) = record { refusal = n; found = false; count = 0 }
+rowsReply (answer none) = record { refusal = 0; found = false; count = 0 }
+rowsReply (answer (some l)) = record { refusal = 0; found = true; count = length l }
+
+-- reply and rows are those of the call's definition: "Rows past the last stay."
+pub record RowsReplies (def : Answer (Option (List Row))) (old new : List Entry) (r : RowsReply) : Type 0 where
+  pub replies : r ≡ rowsReply def
+  pub rows : new ≡ filled (inEntries def) old
 
 -- ---- changes
 

@@ -34,10 +34,12 @@
 #![cfg_attr(not(feature = "std"), no_std)]
 
 mod raw;
+mod rows;
 #[cfg(feature = "std")]
 mod time;
 mod types;
 
+pub use rows::{DirEntries, Entry, XattrNames};
 pub use types::{FileAttr, FileType, FlushReason, Refusal, Result, Time};
 
 /// A target of so many bytes has room for every image.
@@ -81,6 +83,11 @@ fn yes_no(r: raw::YesNo) -> Result<bool> {
 
 fn inode(r: raw::Inode) -> Result<Option<u64>> {
     unless(r.refusal, r.found.then_some(r.inode))
+}
+
+/// The rows that were filled: the count is within the rows lent, which is proved.
+fn filled(r: raw::Rows, rows: &[Entry]) -> Result<Option<&[Entry]>> {
+    unless(r.refusal, if r.found { rows.get(..r.count) } else { None })
 }
 
 fn length(r: raw::Change) -> Result<usize> {
@@ -169,6 +176,33 @@ impl<'a> Image<'a> {
     pub fn has_xattr(self, ino: u64, name: impl AsRef<[u8]>) -> Result<bool> {
         let name = name.as_ref();
         yes_no(call!(appendfs_has_xattr(self.bytes.as_ptr(), self.bytes.len(), ino, name.as_ptr(), name.len())))
+    }
+
+    /// The entries of a directory, rising by bytes. They fill the first of the rows lent; [`Refusal::NoRoom`] if there are too few.
+    ///
+    /// ```
+    /// # use appendfs_layers::{Entry, Image, Time};
+    /// # let root = [1, 1, 0, 0xED, 3, 2, 0, 0, 0, 0, 0, 0, 0, 0, 0, 1, 0, 0, 0, 1, 0, 0, 0];
+    /// # let mut target = [0; 100];
+    /// let n = Image::new(&root).add_dir_entry(1, "offset", 2, Time::new(7, 0), &mut target)?;
+    /// let mut rows = [Entry::default(); 8];
+    /// for (name, inode) in Image::new(&target[..n]).list_directory(1, &mut rows)?.unwrap() {
+    ///     assert_eq!((name, inode), (&b"offset"[..], 2));
+    /// }
+    /// # Ok::<(), appendfs_layers::Refusal>(())
+    /// ```
+    pub fn list_directory<'r>(self, ino: u64, rows: &'r mut [Entry]) -> Result<Option<DirEntries<'a, 'r>>> {
+        let r =
+            call!(appendfs_list_directory(self.bytes.as_ptr(), self.bytes.len(), ino, rows.as_mut_ptr(), rows.len()));
+        let rows = filled(r, rows)?;
+        Ok(rows.map(|rows| DirEntries { image: self.bytes, rows: rows.iter() }))
+    }
+
+    /// The names of the extended attributes, rising by bytes, in the first of the rows lent.
+    pub fn list_xattrs<'r>(self, ino: u64, rows: &'r mut [Entry]) -> Result<Option<XattrNames<'a, 'r>>> {
+        let r = call!(appendfs_list_xattrs(self.bytes.as_ptr(), self.bytes.len(), ino, rows.as_mut_ptr(), rows.len()));
+        let rows = filled(r, rows)?;
+        Ok(rows.map(|rows| XattrNames { image: self.bytes, rows: rows.iter() }))
     }
 
     // ---- changes of the live layer. Each answers the length of the new image in the target

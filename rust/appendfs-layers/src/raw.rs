@@ -1,5 +1,7 @@
 //! The functions of the static library, as include/appendfs_layers.h declares them. A slice is a pointer and a length.
 
+use crate::Entry;
+
 #[repr(C)]
 pub struct YesNo {
     pub refusal: u32,
@@ -57,6 +59,13 @@ pub struct Text {
 }
 
 #[repr(C)]
+pub struct Rows {
+    pub refusal: u32,
+    pub found: bool,
+    pub count: usize,
+}
+
+#[repr(C)]
 pub struct Change {
     pub refusal: u32,
     pub length: usize,
@@ -72,6 +81,9 @@ unsafe extern "C" {
     pub fn appendfs_has_link(img: *const u8, img_len: usize, ino: u64) -> YesNo;
     pub fn appendfs_get_xattr(img: *const u8, img_len: usize, ino: u64, name: *const u8, name_len: usize) -> Text;
     pub fn appendfs_has_xattr(img: *const u8, img_len: usize, ino: u64, name: *const u8, name_len: usize) -> YesNo;
+    pub fn appendfs_list_directory(img: *const u8, img_len: usize, ino: u64, rows: *mut Entry, rows_len: usize)
+    -> Rows;
+    pub fn appendfs_list_xattrs(img: *const u8, img_len: usize, ino: u64, rows: *mut Entry, rows_len: usize) -> Rows;
     pub fn appendfs_insert_new_node(
         img: *const u8,
         img_len: usize,

@@ -1,6 +1,6 @@
 //! Every call takes any bytes, and writes nothing but the new image: images that were damaged, and bytes from a fixed seed.
 
-use appendfs_layers::{FlushReason, Image, Limits, Result, Time};
+use appendfs_layers::{Entry, FlushReason, Image, Limits, Result, Time};
 
 const GUARD: usize = 32;
 
@@ -32,6 +32,14 @@ fn read_all(i: Image<'_>, ino: u64, name: &[u8]) -> bool {
     assert_eq!(i.exists(ino), i.file_type(ino).map(|t| t.is_some()));
     assert_eq!(i.lookup_child(ino, name).is_ok(), i.get_xattr(ino, name).is_ok());
     assert_eq!(i.parent_dir_inode(1).is_ok(), i.attr(ino).is_ok());
+    let mark = Entry { start: 5, length: 6, inode: 7 };
+    let mut rows = [mark; 4];
+    let filled = i.list_directory(ino, &mut rows[..3]).map_or(0, |r| r.map_or(0, |es| es.len()));
+    assert!(rows[filled..].iter().all(|&row| row == mark));
+    assert!(rows[..filled].iter().all(|row| !row.name(i.bytes()).is_empty()));
+    let mut rows = [mark; 4];
+    let filled = i.list_xattrs(ino, &mut rows[..1]).map_or(0, |r| r.map_or(0, |names| names.len()));
+    assert!(rows[filled..].iter().all(|&row| row == mark));
     i.attr(ino).is_ok()
 }
 

@@ -1,6 +1,6 @@
 //! The reads and changes on document 01's images, and each refusal.
 
-use appendfs_layers::{FileType, FlushReason, IMAGE_MAX, Image, Limits, Refusal, Result, Time};
+use appendfs_layers::{Entry, FileType, FlushReason, IMAGE_MAX, Image, Limits, Refusal, Result, Time};
 
 /// Document 01, "Root on paper".
 const ROOT: [u8; 23] = [1, 1, 0, 0xED, 3, 2, 0, 0, 0, 0, 0, 0, 0, 0, 0, 1, 0, 0, 0, 1, 0, 0, 0];
@@ -71,6 +71,40 @@ fn shows_files(i: Image<'_>) {
     assert_eq!(i.get_xattr(2, "user.blade"), Ok(Some(&b"2"[..])));
     assert_eq!(i.get_xattr(2, "user.other"), Ok(None));
     assert_eq!((i.has_xattr(2, "user.blade"), i.has_xattr(3, "user.blade")), (Ok(true), Ok(false)));
+}
+
+type Names = Vec<(Vec<u8>, u64)>;
+
+fn names(i: Image<'_>, ino: u64) -> Result<Option<Names>> {
+    let mut rows = [Entry::default(); 8];
+    Ok(i.list_directory(ino, &mut rows)?.map(|es| es.map(|(name, ino)| (name.to_vec(), ino)).collect()))
+}
+
+#[test]
+fn listings_rise_and_leave_the_rows_behind() {
+    let mut s = Store::with_files();
+    s.change(|i, t| i.add_dir_entry(1, "a", 3, Time::default(), t)).unwrap();
+    s.freeze();
+    s.change(|i, t| i.add_dir_entry(1, "z", 9, Time::default(), t)).unwrap();
+    s.change(|i, t| i.remove_dir_entry(1, "offset", Time::default(), t)).unwrap();
+    assert_eq!(names(s.image(), 1), Ok(Some(vec![(b"a".to_vec(), 3), (b"z".to_vec(), 9)])));
+    assert_eq!(names(s.image(), 2), Ok(None), "a file has no listing");
+    assert_eq!(names(s.image(), 7), Ok(None), "nothing has no listing");
+
+    let mark = Entry { start: 5, length: 6, inode: 7 };
+    let mut rows = [mark; 3];
+    assert_eq!(s.image().list_directory(1, &mut rows).unwrap().unwrap().len(), 2);
+    assert_eq!((rows[0].inode, rows[1].inode, rows[2]), (3, 9, mark));
+    let mut few = [mark; 1];
+    assert_eq!(s.image().list_directory(1, &mut few).map(|_| ()), Err(Refusal::NoRoom));
+    assert_eq!(few, [mark]);
+    assert_eq!(s.image().list_directory(1, &mut rows[..2]).unwrap().unwrap().len(), 2, "just enough");
+
+    let attributes: Vec<&[u8]> = s.image().list_xattrs(2, &mut rows).unwrap().unwrap().collect();
+    assert_eq!(attributes, [b"user.blade"]);
+    assert_eq!(s.image().list_xattrs(3, &mut rows).unwrap().unwrap().len(), 0);
+    assert!(s.image().list_xattrs(7, &mut rows).unwrap().is_none());
+    assert_eq!(Image::new(&EMPTY[..6]).list_xattrs(2, &mut rows).map(|_| ()), Err(Refusal::ImageBroken));
 }
 
 #[test]
