@@ -1,0 +1,2 @@
+-- What the exported calls reply.
+pub mod Replies
