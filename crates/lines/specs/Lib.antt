@@ -1,0 +1,3 @@
+-- What the listing program writes, and how its pieces make up the whole.
+pub mod Digits
+pub mod Lines

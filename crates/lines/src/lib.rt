@@ -1,0 +1,3 @@
+// The lines of the listing program, and the snapshot that they show.
+pub mod digit;
+pub mod line;
