@@ -31,7 +31,7 @@ enum Decimal {
 
 fn main() {
     if os::arg_count() != 3 {
-        complain(b"two arguments, please\n");
+        complain(b"two arguments are needed\n");
         return;
     }
     let mut digits = [0u8; 32];

@@ -109,3 +109,17 @@ module _ {img : List ℕ} {s : InodeLayerStack} {name : Text} {layer : ℕ} (w :
         go : (n : ℕ) → 0 < n → SaidAt img s name (n - 1) r → SpeaksAt img s name n
         go zero h k = absurd (omega arith)
         go (suc n) h k = let z : suc n - 1 ≡ n = omega arith in (r, rw z at k, t)
+
+-- the lookup's answer is what the record that decides says
+pub decided : (img : List ℕ) (s : InodeLayerStack) (name : Text) (i : ℕ) (r : Said) → Decides img s name (i + 1) → SaidAt img s name i r → Speaks r
+    → shown (child name) img s ≡ over r none
+decided img s name i r d k t = d .same ∙ k ∙ go r t
+  where
+    go : (r : Said) → Speaks r → over r (shownUnder (child name) img s i) ≡ over r none
+    go S.Nothing t = absurd t
+    go S.NoChild t = refl
+    go (S.Child j) t = refl
+
+-- or what the base says
+pub decided-base : (img : List ℕ) (s : InodeLayerStack) (name : Text) (r : Said) → Decides img s name 0 → SaidBase img s name r → shown (child name) img s ≡ over r none
+decided-base img s name r d k = d .same ∙ k
