@@ -85,7 +85,8 @@ span-start xs ys = record {
 }
 
 base-starts : (s : Store) (rest : List ℕ) → Spans (writeImage s ++ rest) 0 (base .write (s .base)) (length (base .write (s .base)))
-base-starts s rest = rw (store-bytes, append-assoc) (span-start (base .write (s .base)) _)
+base-starts s rest =
+    rw (store-bytes, append-assoc (base .write (s .base)) _ rest) (span-start (base .write (s .base)) _)
 
 fits-base : {s : Store} → FitsStore s → base .Fits (s .base)
 unfolding node
