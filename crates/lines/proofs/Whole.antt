@@ -47,7 +47,7 @@ line-of-short e = go (baseAttr (e .0) (some (e .1)))
 -- ---- the pieces
 
 -- what was written at the start of a buffer that has room for it
-put-start : {old new bs : List ℕ} {n : ℕ} → Put old 0 bs n new → length bs ≤ length old → take n new ≡ bs
+pub put-start : {old new bs : List ℕ} {n : ℕ} → Put old 0 bs n new → length bs ≤ length old → take n new ≡ bs
 put-start {old} {new} {bs} {n} p h =
     let e : n ≡ 0 + length bs = omega (arith, p .to, p .short) in
     rw (put-whole p (omega arith)) (take-at bs (drop n old) n (omega arith))
@@ -63,9 +63,15 @@ pieces-lines (e ∷ l) r bytes h (piece {n = nl} {bytes = rest} z room n p) =
 
 -- ---- the whole: all that is written, in either case, is `listingBytes` of the image
 
-module _ {img old new : List ℕ} (lent : length old ≡ 65536) where
-  pub whole : {rows : Rows} {bytes : List ℕ} → OpensListing img old (O.Lines rows) new → Pieces new rows bytes → heading ++ bytes ≡ listingBytes img
-  whole {rows} {bytes} o p = go (snapshotOf 65536 img) (rw lent at (o .opens))
+refusal-short : (n : ℕ) → length (refusal n) ≤ longest
+refusal-short n = simp length-append (omega (arith, digits-few 10 22 1 n))
+
+module _ {img old new : List ℕ} (lent : length old ≡ 65536) {buf line : List ℕ} {n : ℕ} (room : longest ≤ length buf) where
+  -- the heading, and a piece for each inode
+  pub whole : {rows : Rows} {bytes : List ℕ} → OpensListing img old (O.Lines rows) new → Put buf 0 heading n line → Pieces new rows bytes
+      → take n line ++ bytes ≡ listingBytes img
+  whole {rows} {bytes} o h p =
+      rw (put-start h (omega arith)) (go (snapshotOf 65536 img) (rw lent at (o .opens)))
     where
       go : (a : Answer Store) → OpensTo a (O.Lines rows) new → heading ++ bytes ≡ listing a
       go (refused n) d = absurd (let z : _≡_ {A = ℕ} 0 1 = cc in omega arith)
@@ -73,9 +79,10 @@ module _ {img old new : List ℕ} (lent : length old ≡ 65536) where
           let e : rows ≡ d .0 = cc in
           ap (λ (t : List ℕ). heading ++ t) (pieces-lines (s .base .rows) rows bytes (rw e (d .2)) p)
 
-  pub whole-refused : {n : ℕ} → OpensListing img old (O.Refused n) new → refusal n ≡ listingBytes img
-  whole-refused {n} o = go (snapshotOf 65536 img) (rw lent at (o .opens))
+  -- or only the refusal
+  pub whole-refused : {m : ℕ} → OpensListing img old (O.Refused m) new → Put buf 0 (refusal m) n line → take n line ≡ listingBytes img
+  whole-refused {m} o h = put-start h (omega (arith, refusal-short m)) ∙ go (snapshotOf 65536 img) (rw lent at (o .opens))
     where
-      go : (a : Answer Store) → OpensTo a (O.Refused n) new → refusal n ≡ listing a
-      go (refused m) d = let e : n ≡ m = cc in ap refusal e
+      go : (a : Answer Store) → OpensTo a (O.Refused m) new → refusal m ≡ listing a
+      go (refused k) d = let e : m ≡ k = cc in ap refusal e
       go (answer s) d = let y = d .1 in absurd (let z : _≡_ {A = ℕ} 0 1 = cc in omega arith)

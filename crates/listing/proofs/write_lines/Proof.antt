@@ -3,12 +3,6 @@ use lib.ListN.{length}
 use borrow.Author.Needs.{needs}
 use Rattle.listing.proofs.write_lines.Statement.{statement}
 use Rattle.listing.proofs.write_lines.Tie as tie
-use Rattle.listing.proofs.write_lines.Reads as reads
-use Rattle.listing.proofs.write_lines.Lts as lts
-use Rattle.io.proofs.write_all.Reads as write-all-reads
-use Rattle.lines.proofs.line.put_heading.Reads as put-heading-reads
-use Rattle.lines.proofs.rows.put_next.Reads as put-next-reads
-use Rattle.wire.proofs.part.part.Reads as part-reads
 
 abbrev Inv-loop : tie.InvT-loop
 Inv-loop snapshot line₀ end more₀ rest₀ line more rest = length line ≡ 128
@@ -16,63 +10,48 @@ Inv-loop snapshot line₀ end more₀ rest₀ line more rest = length line ≡ 1
 abbrev μ-loop : tie.MeasureT-loop
 μ-loop snapshot line₀ end more₀ rest₀ line more rest = rest .left
 
--- src/main.rt:39:27
 slice-aggregate-put-heading : tie.Need-slice-aggregate-put-heading Inv-loop μ-loop
 slice-aggregate-put-heading c = search needs
 
--- src/main.rt:39:9
 put-heading-requires : tie.Need-put-heading-requires Inv-loop μ-loop
 put-heading-requires c κs = search needs
 
--- src/main.rt:40:54
 slice-aggregate-part : tie.Need-slice-aggregate-part Inv-loop μ-loop
 slice-aggregate-part c = search needs
 
--- src/main.rt:40:49
 part-requires : tie.Need-part-requires Inv-loop μ-loop
 part-requires c κs = search needs
 
--- src/main.rt:40:9
 write-all-requires : tie.Need-write-all-requires Inv-loop μ-loop
 write-all-requires c κs = search needs
 
--- src/main.rt:42:5
 loop-holds : tie.Need-loop-holds Inv-loop μ-loop
 loop-holds c = search needs
 
--- src/main.rt:44:13
 returns : tie.Need-returns Inv-loop μ-loop
 returns c = search needs
 
--- src/main.rt:46:29
 slice-aggregate-put-next : tie.Need-slice-aggregate-put-next Inv-loop μ-loop
 slice-aggregate-put-next c = search needs
 
--- src/main.rt:46:13
 put-next-requires : tie.Need-put-next-requires Inv-loop μ-loop
 put-next-requires c κs = search needs
 
--- src/main.rt:47:50
 slice-aggregate-part-2 : tie.Need-slice-aggregate-part-2 Inv-loop μ-loop
 slice-aggregate-part-2 c = search needs
 
--- src/main.rt:47:45
 part-requires-2 : tie.Need-part-requires-2 Inv-loop μ-loop
 part-requires-2 c κs = search needs
 
--- src/main.rt:47:9
 write-all-requires-2 : tie.Need-write-all-requires-2 Inv-loop μ-loop
 write-all-requires-2 c κs = search needs
 
--- src/main.rt:42:5
 loop-less : tie.Need-loop-less Inv-loop μ-loop
 loop-less c = search needs
 
--- src/main.rt:42:5
 loop-again : tie.Need-loop-again Inv-loop μ-loop
 loop-again c = search needs
 
--- src/main.rt:37:1
 returns-2 : tie.Need-returns-2 Inv-loop μ-loop
 returns-2 c = search needs
 

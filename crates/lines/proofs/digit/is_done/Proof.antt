@@ -1,14 +1,10 @@
 use borrow.Author.Tests.{eq-eqb, ne-eqb}
 use Rattle.lines.proofs.digit.is_done.Statement.{statement}
 use Rattle.lines.proofs.digit.is_done.Tie as tie
-use Rattle.lines.proofs.digit.is_done.Reads as reads
-use Rattle.lines.proofs.digit.is_done.Lts as lts
 
--- src/digit.rt:16:9
 returns : tie.Need-returns
 returns c = rw (eq-eqb (c .before .args .rest) 0 (c .if1 .taken))
 
--- src/digit.rt:12:1
 returns-2 : tie.Need-returns-2
 returns-2 c = rw (ne-eqb (c .before .args .rest) 0 (c .if1 .left))
 

@@ -5,12 +5,6 @@ use borrow.Author.Needs.{needs}
 use Rattle.lines.proofs.Spelling.{Spelled, spelled-none, spelled-more, spelled-done, spelled-full, put-same}
 use Rattle.lines.proofs.digit.put_digits.Statement.{statement}
 use Rattle.lines.proofs.digit.put_digits.Tie as tie
-use Rattle.lines.proofs.digit.put_digits.Reads as reads
-use Rattle.lines.proofs.digit.put_digits.Lts as lts
-use Rattle.lines.proofs.digit.is_done.Reads as is-done-reads
-use Rattle.lines.proofs.digit.less_one.Reads as less-one-reads
-use Rattle.wire.proofs.put.put_bytes.Reads as put-bytes-reads
-use Rattle.wire.proofs.put.put_part.Reads as put-part-reads
 
 abbrev Inv-loop : tie.InvT-loop
 Inv-loop buf₀ at number base least text₀ start₀ rest₀ left₀ buf text start rest left = (buf ≡ buf₀) × Spelled base number least text start rest left
@@ -18,79 +12,60 @@ Inv-loop buf₀ at number base least text₀ start₀ rest₀ left₀ buf text s
 abbrev μ-loop : tie.MeasureT-loop
 μ-loop buf₀ at number base least text₀ start₀ rest₀ left₀ buf text start rest left = start
 
--- src/digit.rt:40:5
 loop-holds : tie.Need-loop-holds Inv-loop μ-loop
 loop-holds c = (refl, spelled-none refl)
 
--- src/digit.rt:41:12
 is-done-requires : tie.Need-is-done-requires Inv-loop μ-loop
 is-done-requires c κs = search needs
 
--- src/digit.rt:42:38
 slice-aggregate-put-part : tie.Need-slice-aggregate-put-part Inv-loop μ-loop
 slice-aggregate-put-part c = search needs
 
--- src/digit.rt:42:13
 put-part-requires : tie.Need-put-part-requires Inv-loop μ-loop
 put-part-requires c κs = search needs
 
--- src/digit.rt:42:13
 same-length : tie.Need-same-length Inv-loop μ-loop
 same-length c = search needs
 
--- src/digit.rt:42:13
 returns : tie.Need-returns Inv-loop μ-loop
 returns c = put-same (c .before .before .before .before .before .before .before .before .loop .inv .0) (spelled-done (c .before .before .before .before .before .before .before .before .loop .inv .1) (sym (c .before .before .before .before .before .before .is-done .ensures) ∙ c .before .before .before .before .before .if1 .taken)) (c .before .before .put-part .ensures)
 
--- src/digit.rt:44:17
 sub-start : tie.Need-sub-start Inv-loop μ-loop
 sub-start c = search needs
 
--- src/digit.rt:45:24
 rem-text : tie.Need-rem-text Inv-loop μ-loop
 rem-text c = search needs
 
--- src/digit.rt:45:24
 add-text : tie.Need-add-text Inv-loop μ-loop
 add-text c = record { fits = omega (arith, mod-lt (c .before .before .before .loop .rest) {m = c .before .before .before .before .before .args .base} (omega arith)) }
 
--- src/digit.rt:45:23
 cast-text : tie.Need-cast-text Inv-loop μ-loop
 cast-text c = record { fits = omega (arith, mod-lt (c .before .before .before .loop .rest) {m = c .before .before .before .before .before .args .base} (omega arith)) }
 
--- src/digit.rt:45:9
 array-write-text : tie.Need-array-write-text Inv-loop μ-loop
 array-write-text c = search needs
 
--- src/digit.rt:46:16
 div-rest : tie.Need-div-rest Inv-loop μ-loop
 div-rest c = search needs
 
--- src/digit.rt:47:9
 less-one-requires : tie.Need-less-one-requires Inv-loop μ-loop
 less-one-requires c κs = search needs
 
--- src/digit.rt:40:5
 loop-less : tie.Need-loop-less Inv-loop μ-loop
 loop-less c = search needs
 
--- src/digit.rt:40:5
 loop-again : tie.Need-loop-again Inv-loop μ-loop
 loop-again c = (c .before .before .before .before .loop .inv .0, spelled-more (c .before .before .before .before .loop .inv .1) (c .before .before .before .loop-test .taken) (sym (c .before .before .is-done .ensures) ∙ c .before .if1 .left) (c .less-one .ensures))
 
--- src/digit.rt:49:24
 slice-aggregate-put-bytes : tie.Need-slice-aggregate-put-bytes Inv-loop μ-loop
 slice-aggregate-put-bytes c = search needs
 
--- src/digit.rt:49:5
 put-bytes-requires : tie.Need-put-bytes-requires Inv-loop μ-loop
 put-bytes-requires c κs = search needs
 
--- src/digit.rt:32:1
 same-length-2 : tie.Need-same-length-2 Inv-loop μ-loop
 same-length-2 c = search needs
 
--- src/digit.rt:32:1
 returns-2 : tie.Need-returns-2 Inv-loop μ-loop
 returns-2 c = put-same (c .before .before .before .before .before .before .loop .inv .0) (spelled-full (c .before .before .before .before .before .before .loop .inv .1) (omega arith)) (c .before .before .put-bytes .ensures)
 

@@ -3,32 +3,22 @@ use Rattle.lines.proofs.Letters.{kind-letter, kind-known}
 use borrow.Author.Needs.{needs}
 use Rattle.lines.proofs.line.letter_of.Statement.{statement}
 use Rattle.lines.proofs.line.letter_of.Tie as tie
-use Rattle.lines.proofs.line.letter_of.Reads as reads
-use Rattle.lines.proofs.line.letter_of.Lts as lts
-use Rattle.attrs.proofs.attr.type_row.Reads as type-row-reads
-use Rattle.image.proofs.kind.type_letter.Reads as type-letter-reads
 
--- src/line.rt:30:29
 type-row-requires : tie.Need-type-row-requires
 type-row-requires c κs = search needs
 
--- src/line.rt:30:9
 type-letter-requires : tie.Need-type-letter-requires
 type-letter-requires c κs = search needs
 
--- src/line.rt:32:20
 enum-known-found : tie.Need-enum-known-found
 enum-known-found c = search needs
 
--- src/line.rt:33:27
 enum-told : tie.Need-enum-told
 enum-told c = search needs
 
--- src/line.rt:27:1
 returns : tie.Need-returns
 returns c = kind-letter (kindMeant (c .before .before .before .before .before .args .file-type)) (c .before .before .before .before .type-row .ensures .0) (c .before .found .given .1) (c .before .before .before .type-letter .ensures)
 
--- src/line.rt:27:1
 returns-2 : tie.Need-returns-2
 returns-2 c = absurd (kind-known (kindMeant (c .before .before .before .before .args .file-type)) (c .before .before .before .type-row .ensures .0) (c .enum-told .given .1) (c .before .before .type-letter .ensures))
 

@@ -2,45 +2,31 @@ use Rattle.wire.proofs.Puts.{put-append}
 use borrow.Author.Needs.{needs}
 use Rattle.lines.proofs.line.put_line.Statement.{statement}
 use Rattle.lines.proofs.line.put_line.Tie as tie
-use Rattle.lines.proofs.line.put_line.Reads as reads
-use Rattle.lines.proofs.line.put_line.Lts as lts
-use Rattle.lines.proofs.line.letter_of.Reads as letter-of-reads
-use Rattle.lines.proofs.line.put_field.Reads as put-field-reads
-use Rattle.lines.proofs.line.put_mode.Reads as put-mode-reads
 
--- src/line.rt:60:9
 letter-of-requires : tie.Need-letter-of-requires
 letter-of-requires c κs = search needs
 
--- src/line.rt:61:9
 put-field-requires : tie.Need-put-field-requires
 put-field-requires c κs = search needs
 
--- src/line.rt:62:46
 cast-put-mode : tie.Need-cast-put-mode
 cast-put-mode c = search needs
 
--- src/line.rt:62:9
 put-mode-requires : tie.Need-put-mode-requires
 put-mode-requires c κs = search needs
 
--- src/line.rt:63:40
 cast-put-field : tie.Need-cast-put-field
 cast-put-field c = search needs
 
--- src/line.rt:63:9
 put-field-requires-2 : tie.Need-put-field-requires-2
 put-field-requires-2 c κs = search needs
 
--- src/line.rt:64:5
 put-field-requires-3 : tie.Need-put-field-requires-3
 put-field-requires-3 c κs = search needs
 
--- src/line.rt:56:1
 same-length : tie.Need-same-length
 same-length c = search needs
 
--- src/line.rt:56:1
 returns : tie.Need-returns
 returns c = rw (← (c .before .before .before .before .before .before .before .before .before .before .before .before .before .before .before .before .before .before .letter-of .ensures)) (put-append (c .before .before .before .before .before .before .before .before .before .before .before .before .before .before .before .before .put-field .ensures) (put-append (c .before .before .before .before .before .before .before .before .before .before .before .put-mode .ensures) (put-append (c .before .before .before .before .before .before .put-field2 .ensures) (c .before .before .put-field3 .ensures))))
 

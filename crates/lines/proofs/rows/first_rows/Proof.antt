@@ -2,20 +2,13 @@ use Rattle.lines.proofs.Rowed.{rows-first}
 use borrow.Author.Needs.{needs}
 use Rattle.lines.proofs.rows.first_rows.Statement.{statement}
 use Rattle.lines.proofs.rows.first_rows.Tie as tie
-use Rattle.lines.proofs.rows.first_rows.Reads as reads
-use Rattle.lines.proofs.rows.first_rows.Lts as lts
-use Rattle.wire.proofs.cursor.place_at.Reads as place-at-reads
-use Rattle.wire.proofs.number.read_number.Reads as read-number-reads
 
--- src/rows.rt:50:9
 read-number-requires : tie.Need-read-number-requires
 read-number-requires c κs = search needs
 
--- src/rows.rt:53:13
 place-at-requires : tie.Need-place-at-requires
 place-at-requires c κs = search needs
 
--- src/rows.rt:47:1
 returns : tie.Need-returns
 returns c = rows-first (c .before .read-number .ensures) (c .place-at .ensures)
 

@@ -3,40 +3,28 @@ use Rattle.lines.proofs.Opening.{opened-refused, opened-lines}
 use borrow.Author.Needs.{needs}
 use Rattle.lines.proofs.rows.open_listing.Statement.{statement}
 use Rattle.lines.proofs.rows.open_listing.Tie as tie
-use Rattle.lines.proofs.rows.open_listing.Reads as reads
-use Rattle.lines.proofs.rows.open_listing.Lts as lts
-use Rattle.flush.proofs.flush.snapshot_all.Reads as snapshot-all-reads
-use Rattle.lines.proofs.rows.first_rows.Reads as first-rows-reads
 
--- src/rows.rt:36:9
 snapshot-all-requires : tie.Need-snapshot-all-requires
 snapshot-all-requires c κs = search needs
 
--- src/rows.rt:38:31
 enum-known-answer : tie.Need-enum-known-answer
 enum-known-answer c = search needs
 
--- src/rows.rt:40:35
 enum-told : tie.Need-enum-told
 enum-told c = search needs
 
--- src/rows.rt:40:17
 first-rows-requires : tie.Need-first-rows-requires
 first-rows-requires c κs = search needs
 
--- src/rows.rt:33:1
 same-length : tie.Need-same-length
 same-length c = search needs
 
--- src/rows.rt:33:1
 returns : tie.Need-returns
 returns c = opened-refused (c .before .before .before .before .before .snapshot-all .ensures) (c .before .answer .given .1) refl
 
--- src/rows.rt:33:1
 same-length-2 : tie.Need-same-length-2
 same-length-2 c = search needs
 
--- src/rows.rt:33:1
 returns-2 : tie.Need-returns-2
 returns-2 c = opened-lines (c .before .before .before .before .before .before .snapshot-all .ensures) (c .before .before .enum-told .given .1) (c .first-rows .ensures) refl
 

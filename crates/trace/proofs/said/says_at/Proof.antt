@@ -2,57 +2,40 @@ use Rattle.trace.proofs.Saying.{said-tombstone, said-other, added-liste
 use borrow.Author.Needs.{needs}
 use Rattle.trace.proofs.said.says_at.Statement.{statement}
 use Rattle.trace.proofs.said.says_at.Tie as tie
-use Rattle.trace.proofs.said.says_at.Reads as reads
-use Rattle.trace.proofs.said.says_at.Lts as lts
-use Rattle.lookup.proofs.search.find_name.Reads as find-name-reads
-use Rattle.stack.proofs.stack.record_at.Reads as record-at-reads
-use Rattle.trace.proofs.said.entry_in.Reads as entry-in-reads
 
--- src/said.rt:47:9
 record-at-requires : tie.Need-record-at-requires
 record-at-requires c κs = search needs
 
--- src/said.rt:48:26
 enum-known-entry : tie.Need-enum-known-entry
 enum-known-entry c = search needs
 
--- src/said.rt:49:9
 enum-told : tie.Need-enum-told
 enum-told c = search needs
 
--- src/said.rt:49:9
 returns : tie.Need-returns
 returns c = said-tombstone (c .before .before .before .before .before .pre) (c .before .before .record-at .ensures) (c .before .before .before .before .before .args .name .now) (c .enum-told .given .1)
 
--- src/said.rt:51:30
 enum-known-delta : tie.Need-enum-known-delta
 enum-known-delta c = search needs
 
--- src/said.rt:52:9
 returns-2 : tie.Need-returns-2
 returns-2 c = said-other (c .before .before .before .before .before .before .before .pre) (c .before .before .before .before .record-at .ensures) (c .before .before .before .before .before .before .before .args .name .now) (c .before .before .entry .given .1) (c .match2 .keys2)
 
--- src/said.rt:56:9
 find-name-requires : tie.Need-find-name-requires
 find-name-requires c κs = removed-listed (c .before .before .before .before .before .before .before .before .before .before .before .pre) (c .before .before .before .before .before .before .before .before .record-at .ensures) (c .before .before .before .before .before .before .before .before .before .before .before .args .name .now) (c .before .before .before .before .before .before .entry .given .1) (c .before .before .before .delta .given .1)
 
--- src/said.rt:58:25
 enum-told-2 : tie.Need-enum-told-2
 enum-told-2 c = search needs
 
--- src/said.rt:59:27
 enum-told-3 : tie.Need-enum-told-3
 enum-told-3 c = search needs
 
--- src/said.rt:59:27
 entry-in-requires : tie.Need-entry-in-requires
 entry-in-requires c κs = added-listed (c .before .before .before .before .before .before .before .before .before .before .before .before .before .before .pre) (c .before .before .before .before .before .before .before .before .before .before .before .record-at .ensures) (c .before .before .before .before .before .before .before .before .before .before .before .before .before .before .args .name .now) (c .before .before .before .before .before .before .before .before .before .entry .given .1) (c .before .before .before .before .before .before .delta .given .1)
 
--- src/said.rt:43:1
 returns-3 : tie.Need-returns-3
 returns-3 c = said-removed (c .before .before .before .before .before .before .before .before .before .before .before .before .before .before .pre) (c .before .before .before .before .before .before .before .before .before .before .before .record-at .ensures) (c .before .before .before .before .before .before .before .before .before .before .before .before .before .before .args .name .now) (c .before .before .before .before .before .before .before .before .before .entry .given .1) (c .before .before .before .before .before .before .delta .given .1) (c .before .before .find-name .ensures) (c .enum-told2 .given .1)
 
--- src/said.rt:43:1
 returns-4 : tie.Need-returns-4
 returns-4 c = said-added (c .before .before .before .before .before .before .before .before .before .before .before .before .before .before .before .pre) (c .before .before .before .before .before .before .before .before .before .before .before .before .record-at .ensures) (c .before .before .before .before .before .before .before .before .before .before .before .before .before .before .before .args .name .now) (c .before .before .before .before .before .before .before .before .before .before .entry .given .1) (c .before .before .before .before .before .before .before .delta .given .1) (c .before .before .before .find-name .ensures) (c .entry-in .result) (c .before .enum-told3 .given .1) (c .entry-in .ensures)
 
