@@ -205,5 +205,6 @@ def answer(words):
         return str(fault)
 
 
-for line in sys.stdin.read().splitlines():
-    print(line if line.startswith("#") else f"{line} = {answer(line.split(' '))}")
+if __name__ == "__main__":
+    for line in sys.stdin.read().splitlines():
+        print(line if line.startswith("#") else f"{line} = {answer(line.split(' '))}")

@@ -210,8 +210,9 @@ def images():
         line("image", 5, spread[:k])
 
 
-numbers()
-texts()
-times()
-comparisons()
-images()
+if __name__ == "__main__":
+    numbers()
+    texts()
+    times()
+    comparisons()
+    images()

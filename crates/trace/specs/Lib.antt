@@ -1,0 +1,2 @@
+-- What the layers of a stack say of a name.
+pub mod Said
