@@ -66,7 +66,7 @@ struct TextReply {
 }
 
 #[repr(C)]
-pub struct ChangeReply {
+struct ChangeReply {
     refusal: u32,
     length: usize,
 }
@@ -322,6 +322,43 @@ impl Port {
     }
 }
 
+/// Buffers for a bare call, as the benchmarks make it: nothing is looked at but the refusal.
+pub struct Lent {
+    target: Vec<u8>,
+    rows: Vec<Entry>,
+}
+
+impl Default for Lent {
+    fn default() -> Lent {
+        Lent { target: vec![0; MAX_IMAGE], rows: vec![EMPTY_ROW; MOST_ROWS] }
+    }
+}
+
+impl Lent {
+    /// The refusal, 0 for none.
+    pub fn call(&mut self, image: &[u8], call: &Call) -> u32 {
+        let (img, len) = (image.as_ptr(), image.len());
+        let rows = self.rows.as_mut_ptr();
+        // SAFETY: each slice is lent with its own length, targets and rows exclusively, for the call alone.
+        unsafe {
+            match call {
+                Call::Exists { inode } => appendfs_exists(img, len, *inode).refusal,
+                Call::Type { inode } => appendfs_file_type(img, len, *inode).refusal,
+                Call::Child { inode, name } => {
+                    appendfs_lookup_child(img, len, *inode, name.as_ptr(), name.len()).refusal
+                }
+                Call::Attr { inode } => appendfs_attr(img, len, *inode).refusal,
+                Call::List { inode, rows: count } => appendfs_list_directory(img, len, *inode, rows, *count).refusal,
+                Call::Link { inode } => appendfs_read_link(img, len, *inode).refusal,
+                Call::Parent { inode } => appendfs_parent_dir_inode(img, len, *inode).refusal,
+                Call::Xattr { inode, name } => appendfs_get_xattr(img, len, *inode, name.as_ptr(), name.len()).refusal,
+                Call::Names { inode, rows: count } => appendfs_list_xattrs(img, len, *inode, rows, *count).refusal,
+                _ => change(image, call, self.target.as_mut_ptr(), self.target.len()).refusal,
+            }
+        }
+    }
+}
+
 fn attr(inode: u64, reply: AttrReply) -> Reply {
     let a = &reply.attr;
     let shown = Attr {
@@ -354,11 +391,9 @@ fn attr(inode: u64, reply: AttrReply) -> Reply {
     })
 }
 
-/// The bare call of a change, for the benchmarks too.
-///
 /// # Safety
 /// `target` must be valid for writes of `room` bytes, and overlap no slice that is lent beside it.
-pub unsafe fn change(image: &[u8], call: &Call, target: *mut u8, room: usize) -> ChangeReply {
+unsafe fn change(image: &[u8], call: &Call, target: *mut u8, room: usize) -> ChangeReply {
     let (img, len) = (image.as_ptr(), image.len());
     // SAFETY: as the caller says.
     unsafe {
@@ -393,11 +428,20 @@ pub unsafe fn change(image: &[u8], call: &Call, target: *mut u8, room: usize) ->
     }
 }
 
+/// Whether the library has the listings.
+pub const LISTINGS: bool = cfg!(listings);
+
 #[cfg(not(listings))]
-unsafe fn appendfs_list_directory(_: Bytes, _: usize, _: u64, _: *mut Entry, _: usize) -> RowsReply {
-    RowsReply { refusal: 99, found: true, count: 0 }
-}
+use without::{appendfs_list_directory, appendfs_list_xattrs};
+
+/// What stands for the listings of a library without them. They are never asked.
 #[cfg(not(listings))]
-unsafe fn appendfs_list_xattrs(_: Bytes, _: usize, _: u64, _: *mut Entry, _: usize) -> RowsReply {
-    RowsReply { refusal: 99, found: true, count: 0 }
+mod without {
+    use super::{Bytes, Entry, RowsReply};
+
+    pub unsafe fn appendfs_list_directory(_: Bytes, _: usize, _: u64, _: *mut Entry, _: usize) -> RowsReply {
+        unreachable!("the library has no listings")
+    }
+
+    pub use appendfs_list_directory as appendfs_list_xattrs;
 }
