@@ -122,7 +122,20 @@ struct Cursor<'a> {
 }
 
 impl<'a> Cursor<'a> {
+    #[inline]
     fn number(&mut self, most: u64) -> Read<u64> {
+        // Most numbers are one byte long.
+        let value = match self.rest {
+            [byte @ 0..0x80, rest @ ..] => {
+                self.rest = rest;
+                u64::from(*byte)
+            }
+            _ => self.long_number()?,
+        };
+        if value <= most { Ok(value) } else { Err(Refusal::Broken) }
+    }
+
+    fn long_number(&mut self) -> Read<u64> {
         let mut value = 0;
         for (place, &byte) in self.rest.iter().take(10).enumerate() {
             if place == 9 && byte > 1 {
@@ -130,7 +143,7 @@ impl<'a> Cursor<'a> {
             }
             value |= u64::from(byte & 0x7f) << (7 * place);
             if byte < 0x80 {
-                if (byte == 0 && place > 0) || value > most {
+                if byte == 0 {
                     break;
                 }
                 self.rest = &self.rest[place + 1..];
