@@ -190,27 +190,86 @@ fn sizes(comparer: &mut Comparer) -> Held<()> {
     one_past(comparer)
 }
 
-/// Numbers one past their limits, which no writer here makes: by hand, in the place of the size or the mode.
+/// Numbers one past their limits, which no writer here makes, in what insert and update are given and in images.
 fn one_past(comparer: &mut Comparer) -> Held<()> {
     let empty = empty_store().write();
     let mut judge = Judge::new(&empty);
-    for (code, last) in [(2u8, 1u8), (2, 0x7f), (2, 2)] {
-        // A file whose size has ten bytes: 2^63, above 2^64, and above again.
-        let delta = [&[code, 0, 1][..], &[0x80; 9], &[last]].concat();
+    for delta in swapped(&full_delta().write()) {
         comparer.change_in_each_room(&mut judge, &Call::Insert { inode: 5, delta })?;
     }
-    for past in [&[0x80, 0x80, 0x80, 0x80, 0x10][..], &[0xff, 0xff, 0xff, 0xff, 0x0f], &[0x80, 0x00], &[0xff, 0x00]] {
-        for mask in [1u8, 2, 4, 8] {
-            comparer
-                .change_in_each_room(&mut judge, &Call::Update { inode: 5, fields: [&[mask][..], past].concat() })?;
-        }
-        for place in 3..7 {
-            // Next id, the staged counts and the request of the empty store.
-            let image = [&empty[..place], past, &empty[place + 1..]].concat();
-            everything(comparer, &image, 5)?;
-        }
+    for fields in swapped(&full_fields().write()) {
+        comparer.change_in_each_room(&mut judge, &Call::Update { inode: 5, fields })?;
+    }
+    let file = |size| Record::Delta(file_delta(Some(size)));
+    let kept = |body| Node { perm: u32::MAX, links: u32::MAX, owner: u32::MAX, group: u32::MAX, ..node(body) };
+    let most = u64::MAX >> 1;
+    let mut image = base([
+        (4, kept(Body::Character { device: u32::MAX })),
+        (5, kept(Body::Block { device: u32::MAX })),
+        (6, kept(Body::File { size: most })),
+        (u64::MAX, kept(Body::Directory { parent: u64::MAX, entries: [(b"a".to_vec(), u64::MAX)].into() })),
+    ])
+    .batch([(5, full_delta().record()), (6, file(most))])
+    .live([(5, full_delta().record()), (6, file(most)), (7, delta(Change::Socket { device: u32::MAX }).record())]);
+    image.batches[0].bytes = u32::MAX;
+    image.batches[0].operations = u32::MAX;
+    image.batches[0].id = u64::MAX - 1;
+    image.next_id = u64::MAX;
+    image.staged_bytes = u32::MAX;
+    image.staged_operations = u32::MAX;
+    for image in swapped(&image.write()) {
+        everything(comparer, &image, 5)?;
     }
     Ok(())
+}
+
+fn full_fields() -> Fields {
+    let most = Some(u32::MAX);
+    let time = Some(Time { seconds: i64::MIN, nanos: 999_999_999 });
+    Fields {
+        mode: most,
+        owner: most,
+        group: most,
+        links: most,
+        atime: time,
+        mtime: time,
+        ctime: time,
+        created: time,
+        ..every_field()
+    }
+}
+
+fn full_delta() -> Delta {
+    let (parent, added) = (Some(u64::MAX), BTreeMap::from([(b"a".to_vec(), u64::MAX)]));
+    Delta { fields: full_fields(), change: Change::Directory { parent, added, removed: Default::default() } }
+}
+
+/// Each number at a limit, wherever it stands, replaced by one past it, and by a longer form.
+fn swapped(bytes: &[u8]) -> Vec<Vec<u8>> {
+    const MAX_32: &[u8] = &[0xff, 0xff, 0xff, 0xff, 0x0f];
+    const MAX_63: &[u8] = &[0xff, 0xff, 0xff, 0xff, 0xff, 0xff, 0xff, 0xff, 0x7f];
+    const MAX_64: &[u8] = &[0xff, 0xff, 0xff, 0xff, 0xff, 0xff, 0xff, 0xff, 0xff, 0x01];
+    const NANOS: &[u8] = &[0xff, 0x93, 0xeb, 0xdc, 0x03];
+    let past: [(&[u8], &[u8]); 8] = [
+        (MAX_32, &[0x80, 0x80, 0x80, 0x80, 0x10]),
+        (MAX_32, &[0xff, 0xff, 0xff, 0xff, 0x8f, 0x00]),
+        (MAX_63, &[0x80, 0x80, 0x80, 0x80, 0x80, 0x80, 0x80, 0x80, 0x80, 0x01]),
+        (MAX_63, &[0xff, 0xff, 0xff, 0xff, 0xff, 0xff, 0xff, 0xff, 0xff, 0x00]),
+        (MAX_64, &[0x80, 0x80, 0x80, 0x80, 0x80, 0x80, 0x80, 0x80, 0x80, 0x02]),
+        (MAX_64, &[0xff, 0xff, 0xff, 0xff, 0xff, 0xff, 0xff, 0xff, 0xff, 0x81, 0x00]),
+        (NANOS, &[0x80, 0x94, 0xeb, 0xdc, 0x03]),
+        (NANOS, &[0xff, 0x93, 0xeb, 0xdc, 0x83, 0x00]),
+    ];
+    let mut list = vec![bytes.to_vec()];
+    for (limit, other) in past {
+        for at in 0..bytes.len() {
+            if bytes[at..].starts_with(limit) {
+                list.push([&bytes[..at], other, &bytes[at + limit.len()..]].concat());
+            }
+        }
+    }
+    assert!(list.len() > 8, "numbers at their limits");
+    list
 }
 
 fn layer(inode: u64, number: usize) -> Delta {
