@@ -16,11 +16,12 @@ use std::collections::BTreeMap;
 
 type Part = fn(&mut Comparer) -> Held<()>;
 
-pub const PARTS: [(&str, Part); 10] = [
+pub const PARTS: [(&str, Part); 11] = [
     ("zero lengths", zero_lengths),
     ("lengths of names, targets and values", lengths),
     ("numbers one short of each size", sizes),
     ("sixteen batches, and a directory spread over all layers", spread),
+    ("ids of batches that don't rise, seventeen batches", ids),
     ("each sort of record over each sort", each_over_each),
     ("every place between freeze, fold and pop", queue_places),
     ("limits of freeze", freeze_limits),
@@ -291,6 +292,37 @@ fn spread(comparer: &mut Comparer) -> Held<()> {
             let record = if tombstone == Some(batches) { Record::Tombstone } else { layer(5, batches).record() };
             everything(comparer, &image.live([(5, record)]).write(), 5)?;
         }
+    }
+    Ok(())
+}
+
+/// Ids that are equal, fall, or are not below next id; one batch too many.
+fn ids(comparer: &mut Comparer) -> Held<()> {
+    for (ids, next_id) in [
+        (vec![1, 1], 2),
+        (vec![2, 1], 3),
+        (vec![1], 1),
+        (vec![1], 0),
+        (vec![0], 0),
+        (vec![0], 1),
+        (vec![1, 300], 300),
+        (vec![1, 300], 301),
+        (vec![u64::MAX - 1, u64::MAX], u64::MAX),
+        (vec![u64::MAX - 1], u64::MAX),
+        ((1..=16).collect(), 17),
+        ((1..=17).collect(), 18),
+    ] {
+        let batch = |id: &u64| Batch {
+            id: *id,
+            bytes: 1,
+            operations: 1,
+            reason: 1,
+            commit: NOW,
+            records: [(5, Record::Tombstone)].into(),
+        };
+        let image = Image { batches: ids.iter().map(batch).collect(), next_id, ..empty_store() };
+        everything(comparer, &image.write(), 5)?;
+        everything(comparer, &image.live([(5, file_delta(None).record())]).write(), 5)?;
     }
     Ok(())
 }
