@@ -88,9 +88,17 @@ pub fn svg(title: &str, lines: &[Line]) -> String {
         for p in &line.points {
             writeln!(s, "<circle cx=\"{:.1}\" cy=\"{:.1}\" r=\"3\" fill=\"{colour}\"/>", x.at(p.0), y.at(p.1)).unwrap();
         }
-        let last = line.points.last().expect("a point");
-        let (right, at) = (x.at(last.0) + 10.0, y.at(last.1) + 4.0);
-        writeln!(s, "<text x=\"{right:.1}\" y=\"{at:.1}\" fill=\"{colour}\">{}</text>", line.label).unwrap();
+    }
+    // Labels at the lines' ends, from the top, none over another.
+    let mut labels: Vec<(f64, &Line)> =
+        lines.iter().map(|line| (y.at(line.points.last().expect("a point").1), line)).collect();
+    labels.sort_by(|a, b| a.0.total_cmp(&b.0));
+    let mut least = 0.0;
+    for (at, line) in labels {
+        let at = f64::max(at, least);
+        least = at + 16.0;
+        let (right, colour, label) = (WIDTH - RIGHT + 8.0, line.colour, line.label);
+        writeln!(s, "<text x=\"{right}\" y=\"{:.1}\" fill=\"{colour}\">{label}</text>", at + 4.0).unwrap();
     }
     s + "</svg>\n"
 }
