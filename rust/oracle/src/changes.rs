@@ -1,7 +1,8 @@
 //! The fixed list of changes that crates/vectors replays, with the Rust's new images.
 
 use crate::builders::{
-    NOW, base, changed, delta, directory, directory_delta, empty_store, file_delta, freeze, node, symlink, symlink_delta,
+    NOW, base, changed, delta, directory, directory_delta, empty_store, file_delta, freeze, node, symlink,
+    symlink_delta,
 };
 use crate::calls::{Answer, Call, run};
 use crate::image::{Body, Change, Delta, Fields, Image, MAX_IMAGE, Node, Record, Time};
@@ -62,7 +63,8 @@ pub fn list() -> List {
 fn random(list: &mut List, seed: u64, call: fn(&mut Random) -> Call) {
     let mut random = Random::new(seed);
     for made in [Random::orderly, Random::disorderly].repeat(100) {
-        let image = std::iter::repeat_with(|| made(&mut random)).find(|image| image.len() <= 200).expect("a short image");
+        let image =
+            std::iter::repeat_with(|| made(&mut random)).find(|image| image.len() <= 200).expect("a short image");
         let call = call(&mut random);
         list.with_room(&image, &call, MOST);
     }
@@ -104,7 +106,10 @@ fn directories(list: &mut List) {
         ("no live record", base([])),
         ("a tombstone", base([]).live([(5, Record::Tombstone)])),
         ("a file", base([]).live([(5, file_delta(Some(1)).record())])),
-        ("a directory among others", base([]).live([(4, Record::Tombstone), (5, delta.record()), (6, file_delta(None).record())])),
+        (
+            "a directory among others",
+            base([]).live([(4, Record::Tombstone), (5, delta.record()), (6, file_delta(None).record())]),
+        ),
     ];
     for (sort, image) in sorts {
         let image = image.write();
@@ -239,7 +244,8 @@ fn updates(list: &mut List) {
     }
     list.says("Update of what an update left: fields and attributes are merged, the new ones over the old.");
     let old = altering(&[("a", Some("1")), ("b", Some("2")), ("c", Some("3")), ("d", None)]);
-    let image = base([]).live([(5, file_delta(Some(1)).setting(Fields { mode: Some(1), owner: Some(2), ..old }))]).write();
+    let image =
+        base([]).live([(5, file_delta(Some(1)).setting(Fields { mode: Some(1), owner: Some(2), ..old }))]).write();
     for changes in [&[][..], &[("a", None)], &[("b", Some("x")), ("bb", Some("y"))], &[("d", Some("z")), ("e", None)]] {
         list.make(&image, update(Fields { owner: Some(7), ..altering(changes) }));
     }
@@ -275,14 +281,20 @@ fn normalised(list: &mut List) {
     let held = || base([(5, directory(1, &[("a", 7), ("b", 8), ("d", 9)]))]);
     let live = dir(&[("a", 7), ("b", 9), ("c", 3), ("d", 9)], &["a", "c", "e"]);
     each(list, &held().live([(4, Record::Tombstone), (5, live.clone()), (6, file_delta(None).record())]));
-    each(list, &held().batch([(5, dir(&[("c", 3)], &["a"]))]).batch([(5, dir(&[("e", 2)], &["d"]))]).live([(5, live.clone())]));
+    each(
+        list,
+        &held().batch([(5, dir(&[("c", 3)], &["a"]))]).batch([(5, dir(&[("e", 2)], &["d"]))]).live([(5, live.clone())]),
+    );
     list.says("Normalise over a name both added and removed: the name leads to none.");
     each(list, &held().batch([(5, dir(&[("c", 3)], &["c"]))]).live([(5, live.clone())]));
     list.says("Normalise where nothing, a tombstone or another kind is below: removed is emptied.");
     each(list, &base([]).live([(5, live.clone())]));
     each(list, &held().batch([(5, Record::Tombstone)]).live([(5, live.clone())]));
     each(list, &held().batch([(5, file_delta(Some(1)).record())]).live([(5, live.clone())]));
-    each(list, &held().batch([(5, file_delta(Some(1)).record())]).batch([(5, dir(&[("a", 7)], &[]))]).live([(5, live)]));
+    each(
+        list,
+        &held().batch([(5, file_delta(Some(1)).record())]).batch([(5, dir(&[("a", 7)], &[]))]).live([(5, live)]),
+    );
 }
 
 /// Fold, of each kind over nothing and over each kind.
@@ -291,13 +303,15 @@ fn folded(list: &mut List) {
     list.make(&empty_store().write(), Call::Fold);
     let held = || base([(2, directory(1, &[("a", 7)])), (5, node(Body::File { size: 1 })), (9, symlink("x"))]);
     list.make(&held().batch([(5, Record::Tombstone), (6, Record::Tombstone)]).write(), Call::Fold);
-    let batch = [(1, file_delta(None).record()), (5, file_delta(Some(2)).record()), (300, symlink_delta(None).record())];
+    let batch =
+        [(1, file_delta(None).record()), (5, file_delta(Some(2)).record()), (300, symlink_delta(None).record())];
     list.make(&held().batch(batch).batch([(2, Record::Tombstone)]).write(), Call::Fold);
     list.says("A fold of each kind on nothing, and on a node of each kind.");
     for record in every_kind() {
         list.with_room(&base([]).batch([(5, record.clone().setting(every_field()))]).write(), &Call::Fold, MOST);
         for below in every_node() {
-            let image = base([(5, below.with(&[("b", "1"), ("c", "2")]))]).batch([(5, record.clone().setting(every_field()))]);
+            let image =
+                base([(5, below.with(&[("b", "1"), ("c", "2")]))]).batch([(5, record.clone().setting(every_field()))]);
             list.with_room(&image.write(), &Call::Fold, MOST);
         }
     }
@@ -325,13 +339,18 @@ fn snapshots(list: &mut List) {
     list.says("A snapshot of each kind over each kind, in two layers, and staged counts that go.");
     for record in every_kind() {
         for below in every_kind() {
-            let image = base([]).batch([(5, below.setting(every_field()))]).live([(5, record.clone().with(&[("b", None), ("d", Some("1"))]))]);
+            let image = base([])
+                .batch([(5, below.setting(every_field()))])
+                .live([(5, record.clone().with(&[("b", None), ("d", Some("1"))]))]);
             list.with_room(&changed(&image.write(), Call::Note { bytes: 3 }), &Call::Snapshot, MOST);
         }
     }
     list.says("A directory spread over a base, batches and live, with a tombstone between.");
     let dir = |added: &[(&str, u64)], removed: &[&str]| directory_delta(None, added, removed).record();
     let held = || base([(5, directory(1, &[("a", 7), ("b", 8)]))]).batch([(5, dir(&[("c", 1)], &["a"]))]);
-    list.make(&held().batch([(5, dir(&[("a", 2)], &["c"]))]).live([(5, dir(&[("d", 4)], &["b"]))]).write(), Call::Snapshot);
+    list.make(
+        &held().batch([(5, dir(&[("a", 2)], &["c"]))]).live([(5, dir(&[("d", 4)], &["b"]))]).write(),
+        Call::Snapshot,
+    );
     list.make(&held().batch([(5, Record::Tombstone)]).live([(5, dir(&[("d", 4)], &["b"]))]).write(), Call::Snapshot);
 }
