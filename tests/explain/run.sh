@@ -34,7 +34,7 @@ explained() {
     explained 18446744073709551616 blade-1.offset
     explained '' blade-1.offset
 } > "$written"
-diff -u tests/explain/blades.out "$written" || { echo "tests/explain/run.sh: '+' is what the program wrote" >&2; exit 1; }
+diff -u tests/explain/blades.out "$written" >&2 || { echo "tests/explain/run.sh: '+' is what the program wrote" >&2; exit 1; }
 cmp crates/explain/stdin examples/blades.img || { echo "tests/explain/run.sh: crates/explain/stdin is not examples/blades.img" >&2; exit 1; }
 echo "tests/explain: $(grep -c '^\$' "$written") lookups"
 python3 tests/explain/rust.py "$program"

@@ -17,7 +17,7 @@ count=0
 for image in "$folder"/*.img; do
     name=$(basename "$image" .img)
     "$program" < "$image" > "$folder/written"
-    diff -u "$folder/$name.out" "$folder/written" || { echo "tests/listing/run.sh: $name: '+' is what the program wrote" >&2; exit 1; }
+    diff -u "$folder/$name.out" "$folder/written" >&2 || { echo "tests/listing/run.sh: $name: '+' is what the program wrote" >&2; exit 1; }
     count=$((count + 1))
 done
 echo "tests/listing: $count images"

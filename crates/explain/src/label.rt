@@ -1,4 +1,4 @@
-// The layers of an image by their names, and which of them have a record of an inode.
+// The layers of an image by their names, and where each has its record of an inode.
 ghost use Prim.Native.Nat.{_≤_};
 use change::section::open_sections;
 use passes::inode::Held;
@@ -8,16 +8,16 @@ use wire::cursor::Cursor;
 use wire::number::read_number;
 use writers::batch::read_batch_head;
 
-// The ids of the batches, front first, and for each, and for live after them, 1 if it has a record.
+// The ids of the batches, front first, and for each, and for live after them, the place of its record, or 0. No record stands at 0.
 pub struct Labels {
     pub ids: [u64; 17],
-    pub has: [u8; 17],
+    pub places: [usize; 17],
     pub batches: usize,
 }
 
-fn is_there(place: Place) -> u8 {
+fn place_or_0(place: Place) -> usize {
     match place {
-        Place::At(_) => 1,
+        Place::At(at) => at,
         Place::Nowhere => 0,
     }
 }
@@ -30,7 +30,7 @@ pub fn label_layers(img: &[u8], ino: u64) -> Labels
     let count = read_number(img, Cursor::At(sections.batches), 16);
     let mut at = count.next;
     let mut ids = [0u64; 17];
-    let mut has = [0u8; 17];
+    let mut places = [0usize; 17];
     let mut i: usize = 0;
     let batches = count.value as usize;
     while i < batches {
@@ -40,12 +40,16 @@ pub fn label_layers(img: &[u8], ino: u64) -> Labels
         let found = find_inode(img, records, Held::Record, ino);
         let place = found.place;
         ids[i] = head.id;
-        has[i] = is_there(place);
+        places[i] = place_or_0(place);
         at = found.next;
         i += 1;
     }
     let live = find_inode(img, at, Held::Record, ino);
     let place = live.place;
-    has[i] = is_there(place);
-    Labels { ids, has, batches }
+    places[i] = place_or_0(place);
+    Labels {
+        ids,
+        places,
+        batches,
+    }
 }

@@ -133,30 +133,31 @@ fn write_layers(img: &[u8], stack: InodeLayerStack, name: &[u8], labels: Labels,
     while 0 < layer {
         layer -= 1;
         write_label(labels, layer);
-        left = write_layer(img, stack, name, labels.has[layer], left, decides);
+        left = write_layer(img, stack, name, labels.places[layer], left, decides);
     }
 }
 
-// The highest of the lowest `left` records, if the layer has one. Answers how many are left.
+// The highest of the lowest `left` records, if it is the one that stands at the layer's place. Answers how many are left.
 fn write_layer(
     img: &[u8],
     stack: InodeLayerStack,
     name: &[u8],
-    has: u8,
+    place: usize,
     left: usize,
     decides: usize,
 ) -> usize
     requires { ⌜ Stacked (now img) stack × (left ≤ stack .count) ⌝ }
     ensures { λ r. ⌜ r ≤ left ⌝ }
 {
-    if has == 0 {
-        say(b"no record\n");
-        return left;
-    }
     if left == 0 {
         say(b"no record\n");
         return left;
     }
-    write_record(img, stack, left - 1, name, decides == left);
-    left - 1
+    let i = left - 1;
+    if stack.deltas[i] != place {
+        say(b"no record\n");
+        return left;
+    }
+    write_record(img, stack, i, name, decides == left);
+    i
 }

@@ -21,6 +21,9 @@ sub-layer c = search needs
 write-label-requires : tie.Need-write-label-requires Inv-loop μ-loop
 write-label-requires c κs = search needs
 
+mul-write-layer : tie.Need-mul-write-layer Inv-loop μ-loop
+mul-write-layer c = search needs
+
 element-copy-out-write-layer : tie.Need-element-copy-out-write-layer Inv-loop μ-loop
 element-copy-out-write-layer c = search needs
 
@@ -46,6 +49,7 @@ write-layers-spec =
     loop-holds
     sub-layer
     write-label-requires
+    mul-write-layer
     element-copy-out-write-layer
     write-layer-requires
     loop-less

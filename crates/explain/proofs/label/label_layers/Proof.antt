@@ -6,10 +6,10 @@ use Rattle.explain.proofs.label.label_layers.Statement.{statement}
 use Rattle.explain.proofs.label.label_layers.Tie as tie
 
 abbrev Inv-loop : tie.InvT-loop
-Inv-loop img ino at₀ ids₀ has₀ i₀ batches at ids has i = (i ≤ batches) × (batches ≤ 16)
+Inv-loop img ino at₀ ids₀ places₀ i₀ batches at ids places i = (i ≤ batches) × (batches ≤ 16)
 
 abbrev μ-loop : tie.MeasureT-loop
-μ-loop img ino at₀ ids₀ has₀ i₀ batches at ids has i = batches - i
+μ-loop img ino at₀ ids₀ places₀ i₀ batches at ids places i = batches - i
 
 open-sections-requires : tie.Need-open-sections-requires Inv-loop μ-loop
 open-sections-requires c κs = search needs
@@ -32,11 +32,14 @@ mul-ids c = search needs
 array-write-ids : tie.Need-array-write-ids Inv-loop μ-loop
 array-write-ids c = search needs
 
-is-there-requires : tie.Need-is-there-requires Inv-loop μ-loop
-is-there-requires c κs = search needs
+place-or-0-requires : tie.Need-place-or-0-requires Inv-loop μ-loop
+place-or-0-requires c κs = search needs
 
-array-write-has : tie.Need-array-write-has Inv-loop μ-loop
-array-write-has c = search needs
+mul-places : tie.Need-mul-places Inv-loop μ-loop
+mul-places c = search needs
+
+array-write-places : tie.Need-array-write-places Inv-loop μ-loop
+array-write-places c = search needs
 
 add-i : tie.Need-add-i Inv-loop μ-loop
 add-i c = search needs
@@ -50,11 +53,14 @@ loop-again c = search needs
 find-inode-requires-2 : tie.Need-find-inode-requires-2 Inv-loop μ-loop
 find-inode-requires-2 c κs = search needs
 
-is-there-requires-2 : tie.Need-is-there-requires-2 Inv-loop μ-loop
-is-there-requires-2 c κs = search needs
+place-or-0-requires-2 : tie.Need-place-or-0-requires-2 Inv-loop μ-loop
+place-or-0-requires-2 c κs = search needs
 
-array-write-has-2 : tie.Need-array-write-has-2 Inv-loop μ-loop
-array-write-has-2 c = search needs
+mul-places-2 : tie.Need-mul-places-2 Inv-loop μ-loop
+mul-places-2 c = search needs
+
+array-write-places-2 : tie.Need-array-write-places-2 Inv-loop μ-loop
+array-write-places-2 c = search needs
 
 returns : tie.Need-returns Inv-loop μ-loop
 returns c = search needs
@@ -72,12 +78,14 @@ label-layers-spec =
     find-inode-requires
     mul-ids
     array-write-ids
-    is-there-requires
-    array-write-has
+    place-or-0-requires
+    mul-places
+    array-write-places
     add-i
     loop-less
     loop-again
     find-inode-requires-2
-    is-there-requires-2
-    array-write-has-2
+    place-or-0-requires-2
+    mul-places-2
+    array-write-places-2
     returns)
