@@ -54,28 +54,26 @@ pub fn no_sources() -> Sources
     Sources { rows, count: 0 }
 }
 
-// One source more, beneath the others.
-pub fn push_source(all: Sources, source: Source) -> Sources
-    requires { ⌜ (all .count < 35) × (length (all .rows) ≡ 35) ⌝ }
-    ensures { λ r. ⌜ r ≡ withSource all source ⌝ }
-{
-    let at = all.count;
-    let mut out = all;
-    out.rows[at] = source;
-    out.count = at + 1;
-    out
-}
-
 // Lists more, beneath the others.
 pub fn push_lists(all: Sources, lists: AtMostTwo) -> Sources
     requires { ⌜ (all .count + howMany lists ≤ 35) × (length (all .rows) ≡ 35) ⌝ }
     ensures { λ r. ⌜ r ≡ withLists all lists ⌝ }
 {
+    let at = all.count;
+    let mut out = all;
     match lists {
-        AtMostTwo::None => all,
-        AtMostTwo::One(source) => push_source(all, source),
-        AtMostTwo::Two { over, under } => push_source(push_source(all, over), under),
+        AtMostTwo::None => {}
+        AtMostTwo::One(source) => {
+            out.rows[at] = source;
+            out.count = at + 1;
+        }
+        AtMostTwo::Two { over, under } => {
+            out.rows[at] = over;
+            out.rows[at + 1] = under;
+            out.count = at + 2;
+        }
     }
+    out
 }
 
 // The list at a part of the image, if there is one.
