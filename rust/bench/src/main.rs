@@ -141,20 +141,35 @@ fn ratio(of: f64, to: f64) -> String {
     if ratio >= 10.0 { format!("{ratio:.0}") } else { format!("{ratio:.2}") }
 }
 
-fn is_timed(call: &Call) -> bool {
-    LISTINGS || !matches!(call, Call::List { .. } | Call::Names { .. })
+/// Why a call is not timed.
+fn untimed(title: &str, call: &Call) -> Option<&'static str> {
+    match call {
+        Call::List { .. } | Call::Names { .. } if !LISTINGS => Some("not in the library"),
+        Call::Freeze { .. } if title == ROOT_ALONE => Some("refused: live is empty"),
+        Call::Fold if title == ROOT_ALONE => Some("refused: no batch"),
+        _ => None,
+    }
 }
+
+const ROOT_ALONE: &str = "The root alone";
 
 /// A table for each image; the calls whose ratio is not as it should be.
 fn tables(port: &mut Port, out: &mut String) -> Vec<String> {
-    let images = [("Small", images::least()), ("Medium", images::of_length(8192)), ("Full", images::of_length(65_200))];
+    let images = [
+        (ROOT_ALONE, images::root()),
+        ("Small", images::least()),
+        ("Medium", images::of_length(8192)),
+        ("Full", images::of_length(65_200)),
+    ];
     let calls = calls();
-    let mut least = vec![[Times::NONE; 3]; calls.len()];
+    let mut least = vec![[Times::NONE; 4]; calls.len()];
     for pass in 1..=PASSES {
         eprintln!("bench: tables, pass {pass} of {PASSES}");
-        for ((name, call), least) in calls.iter().zip(&mut least).filter(|((_, call), _)| is_timed(call)) {
-            for ((_, image), least) in images.iter().zip(least) {
-                *least = least.least(times(port, image, name, call));
+        for ((name, call), least) in calls.iter().zip(&mut least) {
+            for ((title, image), least) in images.iter().zip(least) {
+                if untimed(title, call).is_none() {
+                    *least = least.least(times(port, image, name, call));
+                }
             }
         }
     }
@@ -167,12 +182,12 @@ fn tables(port: &mut Port, out: &mut String) -> Vec<String> {
         out.push_str("|---|---:|---:|---:|---:|---:|\n");
         for ((name, call), least) in calls.iter().zip(&least) {
             let t = least[which];
-            if !is_timed(call) {
-                writeln!(out, "| {name} | not in the library | | | | |").unwrap();
+            if let Some(why) = untimed(title, call) {
+                writeln!(out, "| {name} | {why} | | | | |").unwrap();
                 continue;
             }
             if t.ours >= t.from_bytes {
-                slower.push(format!("{name} on the {} image", title.to_lowercase()));
+                slower.push(format!("{name} ({})", title.to_lowercase()));
             }
             let (ours, whole, resident) = (said(t.ours), said(t.from_bytes), said(t.resident));
             let (from, held) = (ratio(t.from_bytes, t.ours), ratio(t.ours, t.resident));
