@@ -81,7 +81,12 @@ fn seedling(batches: u64) -> Image {
     image
 }
 
-/// The least image: the root and three nodes, a batch and live with one file each.
+/// Document 01's root on paper.
+pub fn root() -> Vec<u8> {
+    oracle::builders::base([(ROOT, directory(ROOT, &[]))]).write()
+}
+
+/// The least image in which no call is refused: the root and three nodes, a batch and live with one file each.
 pub fn least() -> Vec<u8> {
     seedling(1).write()
 }

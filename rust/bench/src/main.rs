@@ -20,11 +20,27 @@ use std::path::Path;
 
 const NOW: Time = Time { seconds: 1_700_000_001, nanos: 5 };
 
+/// Everything is timed so often, from the first to the last, and the least counts: other work on the machine comes and goes.
+const PASSES: usize = 6;
+
 /// Nanoseconds for one call.
+#[derive(Clone, Copy)]
 struct Times {
     ours: f64,
     from_bytes: f64,
     resident: f64,
+}
+
+impl Times {
+    const NONE: Times = Times { ours: f64::INFINITY, from_bytes: f64::INFINITY, resident: f64::INFINITY };
+
+    fn least(self, other: Times) -> Times {
+        Times {
+            ours: self.ours.min(other.ours),
+            from_bytes: self.from_bytes.min(other.from_bytes),
+            resident: self.resident.min(other.resident),
+        }
+    }
 }
 
 fn calls() -> Vec<(&'static str, Call)> {
@@ -125,36 +141,57 @@ fn ratio(of: f64, to: f64) -> String {
     if ratio >= 10.0 { format!("{ratio:.0}") } else { format!("{ratio:.2}") }
 }
 
+/// Why a call is not timed.
+fn untimed(title: &str, call: &Call) -> Option<&'static str> {
+    match call {
+        Call::List { .. } | Call::Names { .. } if !LISTINGS => Some("not in the library"),
+        Call::Freeze { .. } if title == ROOT_ALONE => Some("refused: live is empty"),
+        Call::Fold if title == ROOT_ALONE => Some("refused: no batch"),
+        _ => None,
+    }
+}
+
+const ROOT_ALONE: &str = "The root alone";
+
 /// A table for each image; the calls whose ratio is not as it should be.
 fn tables(port: &mut Port, out: &mut String) -> Vec<String> {
+    let images = [
+        (ROOT_ALONE, images::root()),
+        ("Small", images::least()),
+        ("Medium", images::of_length(8192)),
+        ("Full", images::of_length(65_200)),
+    ];
+    let calls = calls();
+    let mut least = vec![[Times::NONE; 4]; calls.len()];
+    for pass in 1..=PASSES {
+        eprintln!("bench: tables, pass {pass} of {PASSES}");
+        for ((name, call), least) in calls.iter().zip(&mut least) {
+            for ((title, image), least) in images.iter().zip(least) {
+                if untimed(title, call).is_none() {
+                    *least = least.least(times(port, image, name, call));
+                }
+            }
+        }
+    }
     let mut slower = Vec::new();
-    for (title, image) in
-        [("Small", images::least()), ("Medium", images::of_length(8192)), ("Full", images::of_length(65_200))]
-    {
+    for (which, (title, image)) in images.iter().enumerate() {
         writeln!(out, "\n### {title}: {} bytes\n", image.len()).unwrap();
         out.push_str(
             "| call | ours | original, from bytes | original, resident | from bytes / ours | ours / resident |\n",
         );
         out.push_str("|---|---:|---:|---:|---:|---:|\n");
-        for (name, call) in calls() {
-            if !LISTINGS && matches!(call, Call::List { .. } | Call::Names { .. }) {
-                writeln!(out, "| {name} | not in the library | | | | |").unwrap();
+        for ((name, call), least) in calls.iter().zip(&least) {
+            let t = least[which];
+            if let Some(why) = untimed(title, call) {
+                writeln!(out, "| {name} | {why} | | | | |").unwrap();
                 continue;
             }
-            eprintln!("bench: {title}, {name}");
-            let t = times(port, &image, name, &call);
             if t.ours >= t.from_bytes {
-                slower.push(format!("{name} on the {} image", title.to_lowercase()));
+                slower.push(format!("{name} ({})", title.to_lowercase()));
             }
+            let (ours, whole, resident) = (said(t.ours), said(t.from_bytes), said(t.resident));
             let (from, held) = (ratio(t.from_bytes, t.ours), ratio(t.ours, t.resident));
-            writeln!(
-                out,
-                "| {name} | {} | {} | {} | {from} | {held} |",
-                said(t.ours),
-                said(t.from_bytes),
-                said(t.resident)
-            )
-            .unwrap();
+            writeln!(out, "| {name} | {ours} | {whole} | {resident} | {from} | {held} |").unwrap();
         }
     }
     slower
@@ -168,27 +205,39 @@ fn plotted(port: &mut Port, call: &Call, in_place: bool) -> Vec<Line> {
     let mut lines =
         vec![line("ours", "#c0392b"), line("original, from bytes", "#2c3e50"), line("original, resident", "#7f8c8d")];
     lines.extend(in_place.then(|| line("in-place Rust reader", "#2980b9")));
-    for length in LENGTHS {
-        eprintln!("bench: plot, {length} bytes");
-        let image = if length == 300 { images::least() } else { images::of_length(length) };
-        let t = times(port, &image, "plot", call);
-        let reader = in_place.then(|| repeated(|| inplace::lookup_child(black_box(&image), ROOT, NAME.as_bytes())));
-        for (line, nanos) in
-            lines.iter_mut().zip([Some(t.ours), Some(t.from_bytes), Some(t.resident), reader].into_iter().flatten())
-        {
-            line.points.push((image.len() as f64, nanos));
+    let image = |length| if length == LENGTHS[0] { images::least() } else { images::of_length(length) };
+    let images = LENGTHS.map(image);
+    for line in &mut lines {
+        line.points = images.iter().map(|image| (image.len() as f64, f64::INFINITY)).collect();
+    }
+    for pass in 1..=PASSES {
+        eprintln!("bench: plot, pass {pass} of {PASSES}");
+        for (which, image) in images.iter().enumerate() {
+            let t = times(port, image, "plot", call);
+            let reader = in_place.then(|| repeated(|| inplace::lookup_child(black_box(image), ROOT, NAME.as_bytes())));
+            let all = [Some(t.ours), Some(t.from_bytes), Some(t.resident), reader];
+            for (line, nanos) in lines.iter_mut().zip(all.into_iter().flatten()) {
+                line.points[which].1 = line.points[which].1.min(nanos);
+            }
         }
     }
     lines
 }
 
+/// The greatest ratio that ours is to have to the in-place reader.
+const AIM: f64 = 1.25;
+
 /// A child by name: ours against the in-place reader, which both judge the whole image.
 fn against_reader(lines: &[Line], out: &mut String) {
     out.push_str("\n| image | ours | in-place Rust reader | ours / reader |\n|---:|---:|---:|---:|\n");
+    let mut greatest = 0.0;
     for (ours, reader) in lines[0].points.iter().zip(&lines[3].points) {
+        greatest = f64::max(greatest, ours.1 / reader.1);
         writeln!(out, "| {} bytes | {} | {} | {} |", ours.0, said(ours.1), said(reader.1), ratio(ours.1, reader.1))
             .unwrap();
     }
+    let met = if greatest <= AIM { "met" } else { "NOT met" };
+    writeln!(out, "\nThe aim, {AIM} at most, is {met}: the greatest ratio here is {greatest:.2}.").unwrap();
 }
 
 fn main() {

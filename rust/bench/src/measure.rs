@@ -3,7 +3,7 @@
 use std::hint::black_box;
 use std::time::{Duration, Instant};
 
-const ROUNDS: usize = 40;
+const ROUNDS: usize = 8;
 const ROUND: Duration = Duration::from_millis(4);
 
 /// How often `call` fits into a round.
