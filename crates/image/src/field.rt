@@ -9,7 +9,6 @@ ghost use Rattle.image.specs.Places.{Ends, maybe-read};
 use wire::cursor::Cursor;
 use wire::number::read_number;
 use wire::text::read_text;
-use wire::time::read_time;
 
 pub fn pass_number(img: &[u8], at: Cursor, most: u64) -> Cursor
     ensures { λ r. ⌜ Ends (now (img .entry)) (number-read most) at r ⌝ }
@@ -28,8 +27,8 @@ pub fn pass_text(img: &[u8], at: Cursor, least: u64, most: u64) -> Cursor
 pub fn pass_time(img: &[u8], at: Cursor) -> Cursor
     ensures { λ r. ⌜ Ends (now (img .entry)) (time .read) at r ⌝ }
 {
-    let moment = read_time(img, at);
-    moment.next
+    let nanos = pass_number(img, at, 0xFFFF_FFFF_FFFF_FFFF);
+    pass_number(img, nanos, 999_999_999)
 }
 
 // A number that is there if the bit is 1.

@@ -14,7 +14,7 @@ use lib.Seq.{drop-cons}
 use borrow.Author.Tests.{lt-ltb, le-ltb, le-leb, lt-leb, ne-eqb}
 use Rattle.wire.specs.Parse.{Parsed, fault, got}
 use Rattle.wire.specs.Number.{tenth, groups-read, scaled, upTo, number-read, number-rest, lt-or-ge}
-use Rattle.wire.specs.Reading.{Answers, run, noNumber, judgedNumber, lastGroup}
+use Rattle.wire.specs.Reading.{Answers, Tenth, run, noNumber, judgedNumber, lastGroup}
 use Rattle.wire.specs.declared.cursor.Fault.{Fault}
 use Rattle.wire.specs.declared.cursor.Fault.the-variants.{Ended, Malformed}
 use Rattle.wire.specs.declared.cursor.Cursor.{Cursor}
@@ -98,12 +98,13 @@ scaled-more m sum g (got v r) =
 -- The loop has come to i: the groups passed are worth `sum`, the next one weighs `weight`, and `left` more may follow it.
 pub record Far (s : List ℕ) (at low most i weight sum : ℕ) : Type 0 where
   pub left : ℕ
+  pub place : i + left ≡ at + 8
   pub small : sum < weight
   pub weighs : weight * 128 ^ left ≡ tenth
   pub is : number-rest 128 low most 8 (drop at s) ≡ number-rest weight sum most left (drop i s)
 
 pub far-start : {s : List ℕ} {at low most : ℕ} → low < 128 → Far s at low most at 128 low
-far-start h = record { left = 8; small = h; weighs = refl; is = refl }
+far-start h = record { left = 8; place = refl; small = h; weighs = refl; is = refl }
 
 at-least : (v m : ℕ) → 0 < v → m ≤ m * v
 at-least v m h = omega (arith, mul-le-mul-right {m = 1} {n = v} m h, mul-comm m v)
@@ -123,14 +124,20 @@ room : (weight left : ℕ) → weight * 128 ^ left ≡ tenth → weight < tenth 
 room weight zero e h = absurd (omega arith)
 room weight (suc k) e h = weight-most (weight * 128) k (weight-on weight k e)
 
-module _ {s : List ℕ} {at low most i weight sum : ℕ} (f : Far s at low most i weight sum) where
-  pub far-end : {r : NumberRead} → length s ≤ i → r ≡ noNumber Ended → Answers s (number-rest 128 low most 8) (At at) 0 (r .value) (r .next)
-  unfolding number-rest
-  far-end h q = answer-none (f .is ∙ rw (groups-end s i (f .left) h)) q
+module _ {s : List ℕ} {at low most i weight sum end : ℕ} (f : Far s at low most i weight sum) (e : Tenth s at end) where
+  module _ (t : i < end) where
+    far-light : weight < tenth
+    far-light = go (f .left) (f .place) (f .weighs)
+      where
+        go : (n : ℕ) → i + n ≡ at + 8 → weight * 128 ^ n ≡ tenth → weight < tenth
+        go zero p w = absurd (omega (arith, e .near))
+        go (suc n) p w = omega (arith, f .small, weight-most (weight * 128) n (weight-on weight n w))
 
-  module _ (t : weight < tenth) where
+    pub far-inside : i < length s
+    far-inside = omega (arith, e .inside)
+
     pub far-sum : {g : ℕ} → g < 128 → Fits w64 (g * weight + sum)
-    far-sum {g} l = record { fits = omega (arith, group-most g weight l, f .small, room weight (f .left) (f .weighs) t) }
+    far-sum {g} l = record { fits = omega (arith, group-most g weight l, f .small, room weight (f .left) (f .weighs) far-light) }
 
     pub far-group : {g : ℕ} → g < 128 → Fits w64 (g * weight)
     far-group l = record { fits = omega (arith, far-sum l .fits) }
@@ -141,57 +148,64 @@ module _ {s : List ℕ} {at low most i weight sum : ℕ} (f : Far s at low most 
     pub far-high-sum : {b : ℕ} → b < 256 → Fits w64 ((b - 128) * weight + sum)
     far-high-sum l = far-sum (omega arith)
 
-  pub far-weight : weight < tenth → Fits w64 (weight * 128)
-  far-weight t = record { fits = omega (arith, room weight (f .left) (f .weighs) t) }
+    pub far-weight : Fits w64 (weight * 128)
+    far-weight = record { fits = omega (arith, room weight (f .left) (f .weighs) far-light) }
 
-  module _ (h : i < length s) {b : ℕ} (e : b ≡ getD s i 0) where
-    pub far-last : {r : NumberRead} → b < 128 → r ≡ lastGroup b (b * weight + sum) most (i + 1)
-        → Answers s (number-rest 128 low most 8) (At at) 0 (r .value) (r .next)
-    unfolding number-rest
-    far-last {r} l q = go b refl
-      where
-        here : groups-read (drop i s) (f .left) ≡ got b (drop (i + 1) s)
-        here = groups-last s i h (f .left) (rw e at l) ∙ ap (λ (x : ℕ). got x (drop (i + 1) s)) (sym e)
+    module _ {b : ℕ} (d : b ≡ getD s i 0) where
+      pub far-last : {r : NumberRead} → b < 128 → r ≡ lastGroup b (b * weight + sum) most (i + 1)
+          → Answers s (number-rest 128 low most 8) (At at) 0 (r .value) (r .next)
+      unfolding number-rest
+      far-last {r} l q = go b refl
+        where
+          here : groups-read (drop i s) (f .left) ≡ got b (drop (i + 1) s)
+          here = groups-last s i far-inside (f .left) (rw d at l) ∙ ap (λ (x : ℕ). got x (drop (i + 1) s)) (sym d)
 
-        go : (c : ℕ) → b ≡ c → Answers s (number-rest 128 low most 8) (At at) 0 (r .value) (r .next)
-        go zero z = answer-none {f = Malformed} (f .is ∙ rw (here, z)) (q ∙ rw z)
-        go (suc c) z =
-            answer-judged (b * weight + sum) most (i + 1)
-            (f .is ∙ rw (here, lt-ltb 0 b (omega arith))) (omega arith)
-            (q ∙ rw (ne-eqb b 0 (λ (d : b ≡ 0). omega arith)))
+          go : (c : ℕ) → b ≡ c → Answers s (number-rest 128 low most 8) (At at) 0 (r .value) (r .next)
+          go zero z = answer-none {f = Malformed} (f .is ∙ rw (here, z)) (q ∙ rw z)
+          go (suc c) z =
+              answer-judged (b * weight + sum) most (i + 1)
+              (f .is ∙ rw (here, lt-ltb 0 b (omega arith))) (omega (arith, far-inside))
+              (q ∙ rw (ne-eqb b 0 (λ (w : b ≡ 0). omega arith)))
 
-    pub far-more : weight < tenth → 128 ≤ b → b < 256 → Far s at low most (i + 1) (weight * 128) ((b - 128) * weight + sum)
-    unfolding number-rest
-    far-more t l k = go (f .left) (f .weighs) (f .is)
-      where
-        go : (n : ℕ) → weight * 128 ^ n ≡ tenth → number-rest 128 low most 8 (drop at s) ≡ number-rest weight sum most n (drop i s)
-            → Far s at low most (i + 1) (weight * 128) ((b - 128) * weight + sum)
-        go zero w d = absurd (omega arith)
-        go (suc n) w d = record {
-          left = n;
-          small = omega (arith, f .small, group-most (b - 128) weight (omega arith));
-          weighs = weight-on weight n w;
-          is =
-              d
-              ∙ rw (groups-more s i h n (rw e at l) (rw e at k), ← e)
-              (ap (upTo most) (scaled-more weight sum (b - 128) (groups-read (drop (i + 1) s) n)));
-        }
+      pub far-more : 128 ≤ b → b < 256 → Far s at low most (i + 1) (weight * 128) ((b - 128) * weight + sum)
+      unfolding number-rest
+      far-more l k = go (f .left) (f .place) (f .weighs) (f .is)
+        where
+          go : (n : ℕ) → i + n ≡ at + 8 → weight * 128 ^ n ≡ tenth → number-rest 128 low most 8 (drop at s) ≡ number-rest weight sum most n (drop i s)
+              → Far s at low most (i + 1) (weight * 128) ((b - 128) * weight + sum)
+          go zero p w x = absurd (omega (arith, e .near))
+          go (suc n) p w x = record {
+            left = n;
+            place = omega arith;
+            small = omega (arith, f .small, group-most (b - 128) weight (omega arith));
+            weighs = weight-on weight n w;
+            is =
+                x
+                ∙ rw (groups-more s i far-inside n (rw d at l) (rw d at k), ← d)
+                (ap (upTo most) (scaled-more weight sum (b - 128) (groups-read (drop (i + 1) s) n)));
+          }
 
-  -- after the loop comes the tenth byte
-  pub far-tenth : tenth ≤ weight → (weight ≡ tenth) × (f .left ≡ 0)
-  far-tenth t = go (f .left) (f .weighs)
+  pub far-low : sum < tenth
+  far-low = omega (arith, f .small, weight-most weight (f .left) (f .weighs))
+
+  -- After the loop comes the tenth byte, or the bytes have ended before it.
+  far-after : end ≤ i → number-rest 128 low most 8 (drop at s) ≡ number-rest tenth sum most 0 (drop i s)
+  unfolding number-rest
+  far-after h = go (f .left) (f .place) (f .weighs) (f .is)
     where
-      go : (k : ℕ) → weight * 128 ^ k ≡ tenth → (weight ≡ tenth) × (k ≡ 0)
-      go zero d = (omega arith, refl)
-      go (suc k) d = absurd (omega (arith, weight-most (weight * 128) k (weight-on weight k d)))
+      go : (n : ℕ) → i + n ≡ at + 8 → weight * 128 ^ n ≡ tenth → number-rest 128 low most 8 (drop at s) ≡ number-rest weight sum most n (drop i s)
+          → number-rest 128 low most 8 (drop at s) ≡ number-rest tenth sum most 0 (drop i s)
+      go zero p w x =
+          let same : weight ≡ tenth = omega arith in
+          x ∙ rw same
+      go (suc n) p w x =
+          let ended : length s ≤ i = omega (arith, e .last (omega arith)) in
+          x ∙ rw (groups-end s i (suc n) ended) (sym (rw (groups-end s i 0 ended)))
 
-  pub far-low : tenth ≤ weight → sum < tenth
-  far-low t = omega (arith, f .small, far-tenth t .0)
-
-  pub far-rest : {v : ℕ} {n : Cursor} → tenth ≤ weight → Answers s (number-rest tenth sum most 0) (At i) 0 v n
+  pub far-rest : {v : ℕ} {n : Cursor} → end ≤ i → Answers s (number-rest tenth sum most 0) (At i) 0 v n
       → Answers s (number-rest 128 low most 8) (At at) 0 v n
-  far-rest t a = record {
-    reads = record { same = f .is ∙ rw (far-tenth t .0, far-tenth t .1) (a .reads .same); within = a .reads .within };
+  far-rest h a = record {
+    reads = record { same = far-after h ∙ a .reads .same; within = a .reads .within };
     blank = a .blank;
   }
 

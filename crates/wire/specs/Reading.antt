@@ -2,7 +2,7 @@
 use mathlib.Core.Path.{_≡_}
 use mathlib.Core.Bool.{cond}
 use mathlib.Core.List.{List}
-use Prim.Native.Nat.{ℕ, _+_, _≤_}
+use Prim.Native.Nat.{ℕ, _+_, _≤_, _<_}
 use lib.Dec.{eqb, ltb}
 use lib.ListN.{length, take, drop}
 use Rattle.wire.specs.Parse.{Parsed, fault, got}
@@ -71,6 +71,12 @@ judgedNumber value most next = cond (ltb most value) (noNumber Malformed) (recor
 
 abbrev pub lastGroup : ℕ → ℕ → ℕ → ℕ → NumberRead
 lastGroup group value most next = cond (eqb group 0) (noNumber Malformed) (judgedNumber value most next)
+
+-- where the tenth byte of a number stands whose second is at `at`, or the end of the bytes if that comes first
+pub record Tenth (img : List ℕ) (at r : ℕ) : Type 0 where
+  pub inside : r ≤ length img
+  pub near : r ≤ at + 8
+  pub last : r < at + 8 → length img ≤ r
 
 abbrev pub noText : Fault → TextRead
 noText f = record { start = 0; «length» = 0; next = Stop f }

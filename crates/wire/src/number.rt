@@ -1,8 +1,9 @@
 // Numbers: seven bits a byte, low group first, the high bit on all bytes but the last, in the shortest form.
-ghost use Prim.Native.Nat.{_<_};
+ghost use Prim.Native.Nat.{_<_, _≤_};
+ghost use lib.ListN.{length};
 ghost use mathlib.Core.Path.{_≡_};
 ghost use Rattle.wire.specs.Number.{numberBytes, number-read, number-rest, tenth};
-ghost use Rattle.wire.specs.Reading.{Answers, noNumber, judgedNumber, lastGroup};
+ghost use Rattle.wire.specs.Reading.{Answers, Tenth, noNumber, judgedNumber, lastGroup};
 ghost use Rattle.wire.specs.Put.{Put};
 use crate::cursor::Cursor;
 use crate::cursor::Fault;
@@ -40,18 +41,17 @@ fn number_at(s: &[u8], at: usize, most: u64) -> NumberRead
     long_number(s, at + 1, first - 128, most)
 }
 
-// A number from its second byte on, which is at `at`; its first group is `low`.
+// A number from its second byte on, which is at `at`; its first group is `low`. The loop's end is no constant, so that the compiler leaves it
+// a loop, and this is small enough to be compiled into every reader.
 fn long_number(s: &[u8], at: usize, low: u64, most: u64) -> NumberRead
-    requires { ⌜ low < 128 ⌝ }
+    requires { ⌜ (low < 128) × (at ≤ length (now s)) ⌝ }
     ensures { λ r. ⌜ Answers (now (s .entry)) (number-rest 128 low most 8) (Cursor.At at) 0 (r .value) (r .next) ⌝ }
 {
     let mut sum = low;
     let mut weight: u64 = 128;
     let mut i = at;
-    while weight < TENTH {
-        if s.len() <= i {
-            return no_number(Fault::Ended);
-        }
+    let end = before_tenth(s, at);
+    while i < end {
         let group = wide(s[i]);
         if group < 128 {
             return last_group(group, group * weight + sum, most, i + 1);
@@ -61,6 +61,17 @@ fn long_number(s: &[u8], at: usize, low: u64, most: u64) -> NumberRead
         i += 1;
     }
     tenth_group(s, i, sum, most)
+}
+
+// The place of the tenth byte of a number whose second is at `at`, or the end of the bytes if that comes first.
+fn before_tenth(s: &[u8], at: usize) -> usize
+    requires { ⌜ at ≤ length (now s) ⌝ }
+    ensures { λ r. ⌜ Tenth (now (s .entry)) at r ⌝ }
+{
+    if s.len() - at <= 8 {
+        return s.len();
+    }
+    at + 8
 }
 
 // A number from its tenth byte on, which is at `at`; the groups before it are worth `sum`.
