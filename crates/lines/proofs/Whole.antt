@@ -17,8 +17,9 @@ use Rattle.rules.specs.Answers.{Answer, refused, answer}
 use Rattle.rules.specs.FileAttrs.{FileAttr, baseAttr}
 use Rattle.lines.specs.Digits.{glyph, digits}
 use Rattle.lines.specs.Lines.{heading, line, lineIf, lineOf, linesOf, refusal, snapshotOf, listing, listingBytes}
-use Rattle.lines.specs.Rows.{Listed, OpensTo, OpensListing, NextLine, longest, Pieces, done, piece}
+use Rattle.lines.specs.Rows.{Listed, HasRows, OpensTo, OpensListing, NextLine, longest, Pieces, done, piece}
 use Rattle.lines.specs.declared.rows.Rows.{Rows}
+use Rattle.lines.specs.declared.rows.Line.{Line}
 use Rattle.lines.specs.declared.rows.Opened.the-variants as O
 
 -- ---- no line is longer than 94 bytes
@@ -60,6 +61,22 @@ pieces-lines [] r bytes h (piece z room n p) = absurd (let y : r .left ≡ 0 = h
 pieces-lines (e ∷ l) r bytes h (done z) = absurd (let y : r .left ≡ suc (length l) = h .count in omega arith)
 pieces-lines (e ∷ l) r bytes h (piece {n = nl} {bytes = rest} z room n p) =
     rw (put-start (n .line e l h) (omega (arith, line-of-short e)), pieces-lines l (nl .rest) rest (n .rest e l h) p)
+
+-- ---- inodes stand wherever the program reads one
+
+pub opened-rows : {img old new : List ℕ} {rows : Rows} → OpensListing img old (O.Lines rows) new → HasRows new rows
+opened-rows {img} {old} {new} {rows} o = go (snapshotOf (length old) img) (o .opens)
+  where
+    go : (a : Answer Store) → OpensTo a (O.Lines rows) new → HasRows new rows
+    go (refused n) d = absurd (let z : _≡_ {A = ℕ} 0 1 = cc in omega arith)
+    go (answer s) d = let e : rows ≡ d .0 = cc in (s .base .rows, rw e (d .2))
+
+pub next-rows : {img old new : List ℕ} {rows : Rows} {r : Line} → HasRows img rows → (rows .left ≡ 0 → ⊥) → NextLine img rows old r new → HasRows img (r .rest)
+next-rows {img} {rows = rows} {r} h z n = go (h .0) (h .1)
+  where
+    go : (l : List (ℕ × M.Node)) → Listed img rows l → HasRows img (r .rest)
+    go [] s = absurd (z (s .count))
+    go (e ∷ l) s = (l, n .rest e l s)
 
 -- ---- the whole: all that is written, in either case, is `listingBytes` of the image
 

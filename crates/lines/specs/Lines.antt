@@ -15,7 +15,7 @@ use Rattle.rules.specs.Room.{hasRoom}
 use Rattle.rules.specs.ReadCalls.{overImage}
 use Rattle.lines.specs.Digits.{decimal, octal}
 
--- ASCII
+-- between two fields, and at the end of a line, as in document 01's example (ASCII)
 abbrev pub space : List ℕ
 space = 0x20 ∷ []
 
@@ -57,6 +57,7 @@ linesOf (e ∷ l) = lineOf e ++ linesOf l
 abbrev pub snapshotOf : ℕ → List ℕ → Answer Store
 snapshotOf room img = overImage (λ s. ifRoom (hasRoom room) (answer (snapshot usual s))) img
 
+-- "writes the line `INODE T MODE LINKS SIZE`, then the attributes of each snapshot inode; or only `refused N`"
 abbrev pub listing : Answer Store → List ℕ
 listing (refused n) = refusal n
 listing (answer s) = heading ++ linesOf (s .base .rows)

@@ -30,6 +30,10 @@ pub record Listed (img : List ℕ) (r : Rows) (l : List (ℕ × Node)) : Type 0 
   pub count : r .left ≡ length l
   pub fits : Every (λ e. inode .Fits (e .0) × node .Fits (e .1)) l
 
+-- inodes stand there, as many as are said to be left
+abbrev pub HasRows : List ℕ → Rows → Type 0
+HasRows img r = (l : List (ℕ × Node)) × Listed img r l
+
 -- of an image that begins with a base, the rows of the base
 abbrev pub FirstRows : List ℕ → Rows → Type 0
 FirstRows img r = (b : Base) (end : ℕ) → base .Fits b → Spans img 0 (base .write b) end → Listed img r (b .rows)

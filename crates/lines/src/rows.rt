@@ -28,8 +28,8 @@ pub struct Line {
     pub rest: Rows,
 }
 
-// Writes the snapshot of the image to the target, and answers where its inodes stand there. Its scratch is that of a snapshot, and the target,
-// which is at most 65,536 bytes of any use.
+// Writes the snapshot of the image to the target, and answers where its inodes stand there. Its scratch is the target, of which 65,536 bytes are
+// enough for any image, and that of a snapshot.
 pub fn open_listing(img: &[u8], target: &mut [u8]) -> Opened
     ensures { λ r. ⌜ OpensListing (now (img .entry)) (now (target .entry)) r (now (target .exit)) ⌝ }
 {

@@ -3,15 +3,16 @@ ghost use Prim.Native.Nat.{_≤_, _<_};
 ghost use Rattle.image.specs.declared.name.Under.the-variants as U;
 ghost use Rattle.stack.specs.Stacks.{Stacked};
 ghost use Rattle.lookup.specs.Search.{IsList};
-ghost use Rattle.trace.specs.Said.{SaidIn, SaidAt, SaidBase, Decides};
+ghost use Rattle.trace.specs.Said.{SaysList, SaysRecord, SaysBase, Decides};
 use deltas::delta::EntryDelta;
 use deltas::delta::NodeDelta;
 use image::name::Under;
-use lookup::child::base_entries;
 use lookup::search::find_name;
-use nodes::option::OptionPart;
+use nodes::node::NodeKind;
 use nodes::part::Part;
 use passes::inode::Place;
+use stack::stack::OptionNode;
+use stack::stack::base_node;
 use stack::stack::record_at;
 use survey::batch::InodeLayerStack;
 use wire::cursor::Cursor;
@@ -27,7 +28,7 @@ pub enum Said {
 // What a list of entries says.
 fn entry_in(img: &[u8], list: Part, name: &[u8]) -> Said
     requires { ⌜ IsList (now img) U.Inode list ⌝ }
-    ensures { λ r. ⌜ SaidIn (now (img .entry)) list (now (name .entry)) r ⌝ }
+    ensures { λ r. ⌜ SaysList (now (img .entry)) list (now (name .entry)) r ⌝ }
 {
     let place = find_name(img, list, Under::Inode, name);
     match place {
@@ -42,7 +43,7 @@ fn entry_in(img: &[u8], list: Part, name: &[u8]) -> Said
 // What one record says. Records are counted from the lowest.
 pub fn says_at(img: &[u8], stack: InodeLayerStack, i: usize, name: &[u8]) -> Said
     requires { ⌜ Stacked (now img) stack × (i < stack .count) ⌝ }
-    ensures { λ r. ⌜ SaidAt (now (img .entry)) stack (now (name .entry)) i r ⌝ }
+    ensures { λ r. ⌜ SaysRecord (now (img .entry)) stack (now (name .entry)) i r ⌝ }
 {
     let entry = record_at(img, stack, i);
     let EntryDelta::Node(delta) = entry else {
@@ -63,12 +64,16 @@ pub fn says_at(img: &[u8], stack: InodeLayerStack, i: usize, name: &[u8]) -> Sai
 // What the base says.
 pub fn base_says(img: &[u8], stack: InodeLayerStack, name: &[u8]) -> Said
     requires { ⌜ Stacked (now img) stack ⌝ }
-    ensures { λ r. ⌜ SaidBase (now (img .entry)) stack (now (name .entry)) r ⌝ }
+    ensures { λ r. ⌜ SaysBase (now (img .entry)) stack (now (name .entry)) r ⌝ }
 {
-    let entries = base_entries(img, stack);
-    match entries {
-        OptionPart::Some(list) => entry_in(img, list, name),
-        OptionPart::None => Said::NoChild,
+    let base = base_node(img, stack);
+    let OptionNode::Some(node) = base else {
+        return Said::NoChild;
+    };
+    let kind = node.kind;
+    match kind {
+        NodeKind::Directory { parent: _, entries } => entry_in(img, entries, name),
+        _ => Said::NoChild,
     }
 }
 

@@ -1,11 +1,13 @@
 use mathlib.Core.Path.{_≡_}
 use lib.ListN.{length}
 use borrow.Author.Needs.{needs}
+use Rattle.lines.specs.Rows.{HasRows}
+use Rattle.lines.proofs.Whole.{next-rows}
 use Rattle.listing.proofs.write_lines.Statement.{statement}
 use Rattle.listing.proofs.write_lines.Tie as tie
 
 abbrev Inv-loop : tie.InvT-loop
-Inv-loop snapshot line₀ end more₀ rest₀ line more rest = length line ≡ 128
+Inv-loop snapshot line₀ end more₀ rest₀ line more rest = (length line ≡ 128) × HasRows snapshot rest
 
 abbrev μ-loop : tie.MeasureT-loop
 μ-loop snapshot line₀ end more₀ rest₀ line more rest = rest .left
@@ -26,7 +28,7 @@ write-all-requires : tie.Need-write-all-requires Inv-loop μ-loop
 write-all-requires c κs = search needs
 
 loop-holds : tie.Need-loop-holds Inv-loop μ-loop
-loop-holds c = search needs
+loop-holds c = (search needs, c .before .before .before .before .before .before .before .pre)
 
 returns : tie.Need-returns Inv-loop μ-loop
 returns c = search needs
@@ -50,7 +52,7 @@ loop-less : tie.Need-loop-less Inv-loop μ-loop
 loop-less c = search needs
 
 loop-again : tie.Need-loop-again Inv-loop μ-loop
-loop-again c = search needs
+loop-again c = (search needs, next-rows (c .before .before .before .before .before .before .before .before .before .before .loop .inv .1) (c .before .before .before .before .before .before .before .if1 .left) (c .before .before .before .before .before .put-next .ensures))
 
 returns-2 : tie.Need-returns-2 Inv-loop μ-loop
 returns-2 c = search needs
