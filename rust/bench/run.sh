@@ -7,5 +7,9 @@ APPENDFS_SRC=$(cd "$source" && pwd)
 BENCH_DATE=$(date +%Y-%m-%d)
 BENCH_MACHINE=$(sed -n 's/^model name[^:]*: //p' /proc/cpuinfo | head -n 1)
 export APPENDFS_SRC BENCH_DATE BENCH_MACHINE
+if [ -n "${APPENDFS_LAYERS_LIB:-}" ]; then
+    APPENDFS_LAYERS_LIB=$(cd "$APPENDFS_LAYERS_LIB" && pwd)
+    export APPENDFS_LAYERS_LIB
+fi
 cd "$(dirname "$0")"
 cargo run --offline --profile measured -- "${BENCH_OUT:-../../docs}"

@@ -9,6 +9,12 @@ if [ ! -f "${APPENDFS_SRC:-}/src/node.rs" ]; then
     [ "${CI:-}" != true ]
     exit
 fi
+APPENDFS_SRC=$(cd "$APPENDFS_SRC" && pwd)
+export APPENDFS_SRC
+if [ -n "${APPENDFS_LAYERS_LIB:-}" ]; then
+    APPENDFS_LAYERS_LIB=$(cd "$APPENDFS_LAYERS_LIB" && pwd)
+    export APPENDFS_LAYERS_LIB
+fi
 cd "$(dirname "$0")"
 cargo build --offline --release
 DIFFERENTIAL_LAST=$(mktemp)

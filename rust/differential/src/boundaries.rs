@@ -277,7 +277,7 @@ fn layer(inode: u64, number: usize) -> Delta {
     let own = format!("own{number:02}");
     let shared = ["a", "b", "c", "d", "e", "f", "g"];
     let added: Vec<(&str, u64)> = [(shared[number % 7], number as u64), (own.as_str(), inode)].into();
-    directory_delta((number % 5 == 0).then_some(number as u64), &added, &[shared[(number + 3) % 7]])
+    directory_delta(number.is_multiple_of(5).then_some(number as u64), &added, &[shared[(number + 3) % 7]])
 }
 
 /// A directory spread over a base, up to sixteen batches and live; removed in one layer and touched in another.

@@ -115,7 +115,7 @@ impl Comparer {
 
     /// Every read of every inode that the image has, and of others, by every name that it has, and by others.
     pub fn every_read(&mut self, judge: &mut Judge) -> Held<()> {
-        let (inodes, names) = judge.image().map_or_else(|| (vec![0, 1], vec![]), subjects);
+        let (inodes, names) = judge.image().map_or_else(|| (vec![0, 1], vec![b"a".to_vec()]), subjects);
         for &inode in &inodes {
             for call in [
                 Call::Exists { inode },

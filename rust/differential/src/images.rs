@@ -329,7 +329,7 @@ impl Maker<'_> {
         match self.random.below(30) {
             0 => bytes.push(0),
             1 => bytes.truncate(place),
-            2 => bytes[place] = self.random.next() as u8,
+            2 => bytes[place] = self.random.bits() as u8,
             _ => {}
         }
     }

@@ -10,7 +10,7 @@ impl Random {
         Random(seed)
     }
 
-    pub fn next(&mut self) -> u64 {
+    pub fn bits(&mut self) -> u64 {
         self.0 = self.0.wrapping_add(0x9e37_79b9_7f4a_7c15);
         let mut z = self.0;
         z = (z ^ (z >> 30)).wrapping_mul(0xbf58_476d_1ce4_e5b9);
@@ -19,7 +19,7 @@ impl Random {
     }
 
     pub fn below(&mut self, n: u64) -> u64 {
-        self.next() % n
+        self.bits() % n
     }
 
     pub fn chance(&mut self, of: u64) -> bool {
@@ -45,7 +45,7 @@ impl Random {
                 edge.wrapping_sub(self.below(2)).min(most)
             }
             6 => most - self.below(2),
-            _ => self.next() & most,
+            _ => self.bits() & most,
         }
     }
 
@@ -66,7 +66,7 @@ impl Random {
             0..=3 => self.below(5) as i64 - 2,
             4 => self.pick(&[63, 64, -64, -65, 8191, 8192, -8192, -8193]),
             5 => self.pick(&[i64::MIN, i64::MIN + 1, i64::MAX, i64::MAX - 1]),
-            6 => self.next() as i64,
+            6 => self.bits() as i64,
             _ => 1_700_000_000 + self.below(1000) as i64,
         };
         let nanos = match self.below(4) {
