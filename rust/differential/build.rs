@@ -1,5 +1,4 @@
 //! Finds the static library: in the folder that APPENDFS_LAYERS_LIB names, else where `rt staticlib ffi` leaves it.
-//! Sets `listings` if it has them; without them the run says that they are not compared.
 
 use std::path::PathBuf;
 use std::{env, fs};
@@ -17,12 +16,6 @@ fn main() {
         )
     });
     println!("cargo:rerun-if-changed={}", library.display());
-    println!("cargo:rustc-check-cfg=cfg(listings)");
-    let archive = fs::read(&library).expect("libffi.a can be read");
-    let name = b"appendfs_list_directory";
-    if archive.windows(name.len()).any(|bytes| bytes == name) {
-        println!("cargo:rustc-cfg=listings");
-    }
     println!("cargo:rustc-link-search=native={}", folder.display());
     println!("cargo:rustc-link-lib=static=ffi");
 }

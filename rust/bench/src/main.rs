@@ -6,7 +6,7 @@ mod measure;
 mod plot;
 
 use differential::judge::{Judge, Reply};
-use differential::port::{LISTINGS, Lent, Port};
+use differential::port::{Lent, Port};
 use images::{DIRECTORY, FILE, FRESH, LINK, NAME, ROOT};
 use measure::{repeated, used_up};
 use oracle::builders::file_delta;
@@ -144,7 +144,6 @@ fn ratio(of: f64, to: f64) -> String {
 /// Why a call is not timed.
 fn untimed(title: &str, call: &Call) -> Option<&'static str> {
     match call {
-        Call::List { .. } | Call::Names { .. } if !LISTINGS => Some("not in the library"),
         Call::Freeze { .. } if title == ROOT_ALONE => Some("refused: live is empty"),
         Call::Fold if title == ROOT_ALONE => Some("refused: no batch"),
         _ => None,

@@ -4,7 +4,6 @@
 use differential::boundaries::PARTS;
 use differential::compare::{Comparer, Difference, Held, Tally};
 use differential::judge::{Reply, SORTS, is_read};
-use differential::port::LISTINGS;
 use differential::random::Random;
 use differential::{invalid, sequences, shrink};
 use oracle::lines::{change_line, hex, line};
@@ -138,9 +137,6 @@ fn main() -> ExitCode {
         run.progress(&format!("{number} cases"));
     }
     table(&run.comparer.tally);
-    if !LISTINGS {
-        println!("NOT COMPARED: the listings, which the library hasn't");
-    }
     let calls = run.comparer.tally.calls;
     println!(
         "{calls} calls compared ({boundaries} at boundaries, {number} random cases), seed {seed}, {:.1} s, no difference",

@@ -100,9 +100,7 @@ unsafe extern "C" {
     fn appendfs_has_xattr(img: Bytes, len: usize, ino: u64, name: Bytes, name_len: usize) -> YesNoReply;
     fn appendfs_read_link(img: Bytes, len: usize, ino: u64) -> TextReply;
     fn appendfs_get_xattr(img: Bytes, len: usize, ino: u64, name: Bytes, name_len: usize) -> TextReply;
-    #[cfg(listings)]
     fn appendfs_list_directory(img: Bytes, len: usize, ino: u64, rows: *mut Entry, count: usize) -> RowsReply;
-    #[cfg(listings)]
     fn appendfs_list_xattrs(img: Bytes, len: usize, ino: u64, rows: *mut Entry, count: usize) -> RowsReply;
     fn appendfs_insert_new_node(
         img: Bytes,
@@ -426,22 +424,4 @@ unsafe fn change(image: &[u8], call: &Call, target: *mut u8, room: usize) -> Cha
             _ => unreachable!("a read"),
         }
     }
-}
-
-/// Whether the library has the listings.
-pub const LISTINGS: bool = cfg!(listings);
-
-#[cfg(not(listings))]
-use without::{appendfs_list_directory, appendfs_list_xattrs};
-
-/// What stands for the listings of a library without them. They are never asked.
-#[cfg(not(listings))]
-mod without {
-    use super::{Bytes, Entry, RowsReply};
-
-    pub unsafe fn appendfs_list_directory(_: Bytes, _: usize, _: u64, _: *mut Entry, _: usize) -> RowsReply {
-        unreachable!("the library has no listings")
-    }
-
-    pub use appendfs_list_directory as appendfs_list_xattrs;
 }
