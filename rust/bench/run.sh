@@ -1,8 +1,8 @@
 #!/bin/sh
 # Times the static library against the published Rust and an in-place reader, and writes docs/BENCHMARKS.md and its plots.
-# $1, or APPENDFS_SRC: the folder that holds the published sources, src/node.rs and the rest.
+# $1, or APPENDFS_SRC, or shared/docs/src beside the repository: the folder that holds the published sources, src/node.rs and the rest.
 set -eu
-source=${1:-${APPENDFS_SRC:?the folder that holds src/node.rs}}
+source=${1:-${APPENDFS_SRC:-$(dirname "$0")/../../../shared/docs/src}}
 APPENDFS_SRC=$(cd "$source" && pwd)
 BENCH_DATE=$(date +%Y-%m-%d)
 BENCH_MACHINE=$(sed -n 's/^model name[^:]*: //p' /proc/cpuinfo | head -n 1)

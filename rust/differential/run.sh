@@ -1,11 +1,12 @@
 #!/bin/sh
 # differential/run.sh [SECONDS [SEED [CASE]]]: compares the static library with the published Rust for so long (60), from a seed (1).
 # Needs cargo, target/staticlib/libffi.a (rt staticlib ffi; or the folder that APPENDFS_LAYERS_LIB names), and the published sources: APPENDFS_SRC names the
-# folder that holds src/node.rs. Without them: an error with CI=true, else a notice. The exit status is 1 if anything differs.
+# folder that holds src/node.rs, else shared/docs/src beside the repository. Without them: an error with CI=true, else a notice. The exit status is 1 if anything differs.
 set -eu
 seconds=${1:-60}
-if [ ! -f "${APPENDFS_SRC:-}/src/node.rs" ]; then
-    echo "differential: NOT RUN: APPENDFS_SRC does not name the folder of the published Rust (src/node.rs and the rest)" >&2
+APPENDFS_SRC=${APPENDFS_SRC:-$(dirname "$0")/../../../shared/docs/src}
+if [ ! -f "$APPENDFS_SRC/src/node.rs" ]; then
+    echo "differential: NOT RUN: $APPENDFS_SRC is not the folder of the published Rust (src/node.rs and the rest); APPENDFS_SRC names it" >&2
     [ "${CI:-}" != true ]
     exit
 fi
