@@ -10,7 +10,7 @@ use Rattle.wire.specs.declared.cursor.Cursor.{Cursor}
 use Rattle.wire.specs.declared.cursor.Cursor.the-variants.{At}
 use Rattle.wire.specs.Number.{edge, numberBytes, number-read, numberTo}
 use Rattle.wire.specs.Orders.{byNumber}
-use Rattle.wire.specs.Lists.{chain-write, row, onto, lastCount}
+use Rattle.wire.specs.Lists.{lastCount}
 use Rattle.wire.specs.Put.{Put}
 use Rattle.wire.specs.Reading.{Reads, Answers, placeAt}
 use Rattle.image.specs.Meaning as M
@@ -29,27 +29,24 @@ use Rattle.attrs.specs.declared.node.FileAttr.{FileAttr}
 use Rattle.change.specs.Sections.{Spans}
 use Rattle.change.proofs.Sections.{span-front, span-back, span-reads}
 use Rattle.lines.specs.Lines.{line, lineIf, lineOf}
-use Rattle.lines.specs.Rows.{rowsBytes, Listed, FirstRows, NextLine}
+use Rattle.change.specs.Cuts.{rowsBytes}
+use Rattle.change.proofs.Cutting.{chain-rows}
+use Rattle.lines.specs.Rows.{Listed, FirstRows, NextLine}
 use Rattle.lines.specs.declared.rows.Rows.{Rows}
 use Rattle.lines.specs.declared.rows.Line.{Line}
 
 -- ---- a base is its count and its rows
 
-chain-bytes : (prev : Option ℕ) (l : List (ℕ × M.Node)) → chain-write (row byNumber inode node) (onto byNumber inode node) prev l ≡ rowsBytes l
-unfolding rowsBytes
-chain-bytes prev [] = refl
-chain-bytes prev (e ∷ l) = rw (append-assoc, chain-bytes (some (e .0)) l)
-
-pub base-bytes : (b : Base) → base .write b ≡ numberBytes (length (b .rows)) ++ rowsBytes (b .rows)
-base-bytes b = ap (λ (t : List ℕ). numberBytes (length (b .rows)) ++ t) (chain-bytes none (b .rows))
+pub base-bytes : (b : Base) → base .write b ≡ numberBytes (length (b .rows)) ++ rowsBytes inode node (b .rows)
+base-bytes b = ap (λ (t : List ℕ). numberBytes (length (b .rows)) ++ t) (chain-rows byNumber inode node none (b .rows))
 
 pub rows-first : {img : List ℕ} {r : Rows} {next : Cursor} → Answers img (number-read lastCount) (At 0) 0 (r .left) next → r .at ≡ placeAt next → FirstRows img r
 rows-first {img} {r} {next} a e = λ b end f w.
     let v = rw (base-bytes b) at w in
-    let g = span-reads (numberTo lastCount refl) (span-front (numberBytes (length (b .rows))) (rowsBytes (b .rows)) v) (omega (arith, f .count)) next (a .reads) in
+    let g = span-reads (numberTo lastCount refl) (span-front (numberBytes (length (b .rows))) (rowsBytes inode node (b .rows)) v) (omega (arith, f .count)) next (a .reads) in
     record {
       end = end;
-      spans = rw (e, g .1) (span-back (numberBytes (length (b .rows))) (rowsBytes (b .rows)) v);
+      spans = rw (e, g .1) (span-back (numberBytes (length (b .rows))) (rowsBytes inode node (b .rows)) v);
       count = g .0;
       fits = f .each;
     }
@@ -66,12 +63,12 @@ kind-in img (K.BlockDevice r) end h = tt
 kind-in img K.Socket end h = tt
 
 -- what is read of the first of the rows
-pub record Taken (img : List ℕ) (e : ℕ × M.Node) (l : List (ℕ × M.Node)) (inode : ℕ) (n : Node) (next : Cursor) : Type 0 where
-  pub number : inode ≡ e .0
+pub record Taken (img : List ℕ) (e : ℕ × M.Node) (l : List (ℕ × M.Node)) (ino : ℕ) (n : Node) (next : Cursor) : Type 0 where
+  pub number : ino ≡ e .0
   pub meant : nodeMeant img n ≡ e .1
   pub link : LinkIn img (n .kind)
   pub end : ℕ
-  pub spans : Spans img (placeAt next) (rowsBytes l) end
+  pub spans : Spans img (placeAt next) (rowsBytes inode node l) end
 
 row-taken : {img : List ℕ} {r : Rows} {e : ℕ × M.Node} {l : List (ℕ × M.Node)} {i : ℕ} {n : Node} {start next : Cursor} → Listed img r (e ∷ l)
     → Answers img (number-read edge) (At (r .at)) 0 i start → ReadsNode img start n next → Taken img e l i n next
@@ -79,16 +76,16 @@ unfolding rowsBytes
 row-taken {img} {r} {e} {l} {i} {n} {start} {next} h a d =
     let xs = inode .write (e .0) in
     let ys = node .write (e .1) in
-    let w = h .spans in
-    let f = span-reads inode (span-front xs (ys ++ rowsBytes l) w) (h .fits .0 .0) start (a .reads) in
-    let v = span-back xs (ys ++ rowsBytes l) w in
-    let g = span-reads node (span-front ys (rowsBytes l) v) (h .fits .0 .1) next (rw (f .1) at (d .reads)) in
+    let w : Spans img (r .at) (xs ++ (ys ++ rowsBytes inode node l)) (h .end) = rw (append-assoc xs ys (rowsBytes inode node l)) at (h .spans) in
+    let f = span-reads inode (span-front xs (ys ++ rowsBytes inode node l) w) (h .fits .0 .0) start (a .reads) in
+    let v = span-back xs (ys ++ rowsBytes inode node l) w in
+    let g = span-reads node (span-front ys (rowsBytes inode node l) v) (h .fits .0 .1) next (rw (f .1) at (d .reads)) in
     record {
       number = f .0;
       meant = g .0;
       link = kind-in img (n .kind) _ (rw (g .1) at (d .entries));
       end = h .end;
-      spans = rw (g .1) (span-back ys (rowsBytes l) v);
+      spans = rw (g .1) (span-back ys (rowsBytes inode node l) v);
     }
 
 -- its attributes

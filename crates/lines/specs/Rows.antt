@@ -8,6 +8,7 @@ use Rattle.wire.specs.Lists.{Every}
 use Rattle.image.specs.Meaning.{Node, Base, Store}
 use Rattle.image.specs.FieldLayout.{inode}
 use Rattle.image.specs.NodeLayout.{node, base}
+use Rattle.change.specs.Cuts.{rowsBytes}
 use Rattle.change.specs.Sections.{Spans}
 use Rattle.rules.specs.Initial.{usual}
 use Rattle.rules.specs.Answers.{Answer, refused, answer}
@@ -18,15 +19,10 @@ use Rattle.lines.specs.declared.rows.Line.{Line}
 use Rattle.lines.specs.declared.rows.Opened.{Opened}
 use Rattle.lines.specs.declared.rows.Opened.the-variants as O
 
--- "Base: by rising inode: inode; kind ..": inodes with their nodes, as they are written
-unfoldable pub rowsBytes : List (ℕ × Node) → List ℕ
-rowsBytes [] = []
-rowsBytes (e ∷ l) = inode .write (e .0) ++ (node .write (e .1) ++ rowsBytes l)
-
--- these inodes with their nodes stand in the image, from the place on
+-- these inodes with their nodes stand in the image, from the place on: "Base: by rising inode: inode; kind .."
 pub record Listed (img : List ℕ) (r : Rows) (l : List (ℕ × Node)) : Type 0 where
   pub end : ℕ
-  pub spans : Spans img (r .at) (rowsBytes l) end
+  pub spans : Spans img (r .at) (rowsBytes inode node l) end
   pub count : r .left ≡ length l
   pub fits : Every (λ e. inode .Fits (e .0) × node .Fits (e .1)) l
 
