@@ -15,45 +15,50 @@ use Rattle.wire.specs.Reading.{part}
 use Rattle.image.specs.Meaning.{Text}
 use Rattle.merge.specs.Pile.{pass, passAll, first, upper, least}
 use Rattle.merge.specs.Sources.{Decided, rowsFrom, sourceRows, rowAt, rowsIfMore, NoRow, Inside, HeadOf}
-use Rattle.merge.specs.Merges.{sourcesOf, Whole, NoSources, withSource, withLists, howMany, rowsIn, rowIf, headRow, Pushes, Upper, Least, Passed, PassedAll}
+use Rattle.merge.specs.Slots.{sourcesIn, sourceAt, withSourceAt}
+use Rattle.merge.specs.Merges.{sourcesOf, sources, Whole, NoSources, howMany, rowsIn, rowIf, headRow, PushesLists, PushesOne, Upper, Least, Passed, PassedAll}
 use Rattle.merge.specs.declared.source.Source.{Source}
 use Rattle.merge.specs.declared.source.Head.{Head}
 use Rattle.merge.specs.declared.merge.Sources.{Sources}
 use Rattle.merge.specs.declared.merge.AtMostTwo.{AtMostTwo}
 use Rattle.merge.specs.declared.merge.AtMostTwo.the-variants as F
 use Rattle.merge.proofs.Sourced.{no-row-inside}
+use Rattle.merge.proofs.Triples.{sources-long, source-at, source-set}
 
 -- ---- no source, and one more
 
-pub no-source-yet : (s : Source) → NoSources (record { rows = replicate 35 s; count = 0 })
-no-source-yet s = record { whole = record { wide = length-replicate 35 s; few = omega arith }; none-yet = refl }
+pub no-source-yet : NoSources (sources (replicate 105 0) 0)
+no-source-yet = record { whole = record { wide = length-replicate {A = ℕ} 105 0; few = omega arith }; none-yet = refl }
 
 map-snoc : {A B : Type 0} (f : A → B) (l : List A) (x : A) → map f (l ++ (x ∷ [])) ≡ map f l ++ (f x ∷ [])
 map-snoc f [] x = refl
 map-snoc f (a ∷ l) x = rw (map-snoc f l x)
 
-module _ {all : Sources} (w : Whole all) (h : all .count < 35) where
-  pub pushed-whole : (s : Source) → Whole (withSource all s)
-  pushed-whole s = record { wide = rw length-set (w .wide); few = omega arith }
+-- there are as many as a whole array has room for
+pub all-long : {all : Sources} → Whole all → length (sourcesIn (all .rows)) ≡ 35
+all-long {all} w = sources-long 35 (all .rows) (omega (arith, w .wide))
 
-  pub pushed-sources : (img : List ℕ) (s : Source) → sourcesOf img (withSource all s) ≡ sourcesOf img all ++ (sourceRows img s ∷ [])
-  pushed-sources img s =
-      let wide = w .wide in
-      rw (add-one, take-suc-set (all .rows) (all .count) s (omega arith)) (map-snoc (sourceRows img) (take (all .count) (all .rows)) s)
+pub push-one : {l : List ℕ} {n : ℕ} (s : Source) → length l ≡ 105 → n < 35 → PushesOne l n s (n + 1) (withSourceAt l n s)
+push-one {l} {n} s w h img =
+    let long = sources-long 35 l (omega arith) in
+    record {
+      are = rw (source-set l n s, add-one, take-suc-set (sourcesIn l) n s (omega (arith, long))) (map-snoc (sourceRows img) (take n (sourcesIn l)) s);
+      more = omega arith;
+      whole = record { wide = rw length-set (rw length-set (rw length-set w)); few = omega arith };
+    }
 
-module _ {img : List ℕ} {all : Sources} where
-  pub push-none : Whole all → Pushes img all [] all
-  push-none w = record { are = sym (append-nil (sourcesOf img all)); more = omega arith; whole = w }
+pub push-none : {l : List ℕ} {n : ℕ} → length l ≡ 105 → n ≤ 35 → PushesLists l n F.None n l
+push-none {l} {n} w h img = record { are = sym (append-nil (sourcesOf img (sources l n))); more = omega arith; whole = record { wide = w; few = h } }
 
-  push-one : (s : Source) → Whole all → all .count < 35 → Pushes img all (sourceRows img s ∷ []) (withSource all s)
-  push-one s w h = record { are = pushed-sources w h img s; more = omega arith; whole = pushed-whole w h s }
-
-  push-both : {over : Sources} {xs ys : List (List Decided)} {r : Sources} → Pushes img all xs over → Pushes img over ys r → Pushes img all (xs ++ ys) r
-  push-both {over} {xs} {ys} p q = record {
-    are = q .are ∙ rw (p .are) (append-assoc (sourcesOf img all) xs ys);
-    more = omega (arith, p .more, q .more, length-append xs ys);
-    whole = q .whole;
-  }
+pub push-two : {l : List ℕ} {n : ℕ} (s t : Source) {m : ℕ} {k : List ℕ} → PushesOne l n s m k → {r : ℕ} {q : List ℕ} → PushesOne k m t r q → PushesLists l n (F.Two s t) r q
+push-two {l} {n} s t f g img =
+    let p = f img in
+    let q = g img in
+    record {
+      are = q .are ∙ rw (p .are) (append-assoc (sourcesOf img (sources l n)) (sourceRows img s ∷ []) (sourceRows img t ∷ []));
+      more = omega (arith, p .more, q .more);
+      whole = q .whole;
+    }
 
 pub many-two : (f : AtMostTwo) → howMany f ≤ 2
 many-two F.None = omega arith
@@ -64,16 +69,6 @@ pub many-rows : (img : List ℕ) (f : AtMostTwo) → length (rowsIn img f) ≡ h
 many-rows img F.None = refl
 many-rows img (F.One s) = refl
 many-rows img (F.Two s t) = refl
-
-pub push-lists : {img : List ℕ} {all : Sources} (f : AtMostTwo) {lists : List (List Decided)} {r : Sources} → Whole all → all .count + howMany f ≤ 35 → rowsIn img f ≡ lists → r ≡ withLists all f → Pushes img all lists r
-push-lists {img} {all} f {lists} {r} w h e d = rw (d, ← e) (go f h)
-  where
-    go : (f : AtMostTwo) → all .count + howMany f ≤ 35 → Pushes img all (rowsIn img f) (withLists all f)
-    go F.None h = push-none w
-    go (F.One s) h = push-one s w (omega arith)
-    go (F.Two s t) h =
-        let o = push-one {img = img} s w (omega arith) in
-        push-both o (push-one t (o .whole) (omega (arith, o .more)))
 
 -- ---- of two rows
 
@@ -127,7 +122,7 @@ module _ {img : List ℕ} {s : Source} {start size : ℕ} {a : Head} (h : HeadOf
 
 pub record Best (img : List ℕ) (all : Sources) (i : ℕ) (best : Head) : Type 0 where
   pub low : i ≤ all .count
-  pub finds : least byBytes (map (sourceRows img) (drop i (take (all .count) (all .rows)))) ≡ headRow img best
+  pub finds : least byBytes (map (sourceRows img) (drop i (take (all .count) (sourcesIn (all .rows))))) ≡ headRow img best
   pub inside : Inside img best
 
 -- what is left starts with the source at i
@@ -146,22 +141,23 @@ module _ {img : List ℕ} {all : Sources} (w : Whole all) {best : Head} where
   pub best-none : NoRow best → Best img all (all .count) best
   unfolding least
   best-none e =
-      let wide = w .wide in
+      let long = all-long w in
       let few = w .few in
-      let z : drop (all .count) (take (all .count) (all .rows)) ≡ [] = drop-of-length-le _ {i = all .count} (rw (length-take-le (all .count) (all .rows) (omega arith)) (omega arith)) in
+      let z : drop (all .count) (take (all .count) (sourcesIn (all .rows))) ≡ [] = drop-of-length-le _ {i = all .count} (rw (length-take-le (all .count) (sourcesIn (all .rows)) (omega arith)) (omega arith)) in
       record { low = omega arith; finds = rw (z, e .none-there); inside = no-row-inside e }
 
-  best-step : (j : ℕ) (d : Source) {h r : Head} → Best img all (suc j) best → HeadOf img (getD (all .rows) j d .what) (getD (all .rows) j d .left) (getD (all .rows) j d .at) h → Upper img h best r → Best img all j r
+  best-step : (j : ℕ) {s : Source} {h r : Head} → Best img all (suc j) best → s ≡ sourceAt (all .rows) j → HeadOf img (s .what) (s .left) (s .at) h → Upper img h best r → Best img all j r
   unfolding least
-  best-step j d b f u =
-      let wide = w .wide in
+  best-step j {s} b e f u =
+      let long = all-long w in
       let few = w .few in
       let low = b .low in
-      let z = first-is {s = getD (all .rows) j d} f in
-      record { low = omega arith; finds = rw (source-here (all .rows) (all .count) j d (omega arith) (omega arith), b .finds, z) (u .is); inside = u .inside (f .inside) (b .inside) }
+      let here = source-here (sourcesIn (all .rows)) (all .count) j s (omega arith) (omega arith) in
+      let this = source-at (all .rows) j s (omega arith) ∙ sym e in
+      record { low = omega arith; finds = rw (here, this, b .finds, first-is {s = s} f) (u .is); inside = u .inside (f .inside) (b .inside) }
 
-  pub best-more : {i : ℕ} (d : Source) {h r : Head} → Best img all i best → 0 < i → HeadOf img (getD (all .rows) (i - 1) d .what) (getD (all .rows) (i - 1) d .left) (getD (all .rows) (i - 1) d .at) h → Upper img h best r → Best img all (i - 1) r
-  best-more {i} d b h f u = best-step (i - 1) d (let z : i ≡ suc (i - 1) = omega arith in rw z at b) f u
+  pub best-more : {i : ℕ} {s : Source} {h r : Head} → Best img all i best → 0 < i → s ≡ sourceAt (all .rows) (i - 1) → HeadOf img (s .what) (s .left) (s .at) h → Upper img h best r → Best img all (i - 1) r
+  best-more {i} b h e f u = best-step (i - 1) (let z : i ≡ suc (i - 1) = omega arith in rw z at b) e f u
 
   pub best-all : {i : ℕ} → Best img all i best → i ≤ 0 → Least img all best
   best-all {i} b h = let z : i ≡ 0 = omega arith in record { is = rw z at (b .finds); inside = b .inside }
@@ -197,33 +193,30 @@ module _ (img : List ℕ) (k : Text) where
       let f : sourceRows img s ≡ pass byBytes k (sourceRows img t) = cc in
       rw (pass-taken n l m g, f)
 
-pub record Passing (img : List ℕ) (all : Sources) (start size : ℕ) (out : Sources) (i : ℕ) : Type 0 where
-  pub low : i ≤ all .count
-  pub count : out .count ≡ all .count
-  pub whole : Whole out
-  pub are : map (sourceRows img) (out .rows) ≡ passTo i (part img start size) (map (sourceRows img) (all .rows))
+pub record Passing (img : List ℕ) (old : List ℕ) (n start size : ℕ) (new : List ℕ) (i : ℕ) : Type 0 where
+  pub low : i ≤ n
+  pub wide : length new ≡ 105
+  pub are : map (sourceRows img) (sourcesIn new) ≡ passTo i (part img start size) (map (sourceRows img) (sourcesIn old))
 
-module _ {img : List ℕ} {all : Sources} {start size : ℕ} where
-  pub passing-none : Whole all → Passing img all start size all 0
+module _ {img old : List ℕ} {n start size : ℕ} where
+  pub passing-none : length old ≡ 105 → Passing img old n start size old 0
   unfolding passTo
-  passing-none w = record { low = omega arith; count = refl; whole = w; are = refl }
+  passing-none w = record { low = omega arith; wide = w; are = refl }
 
-  module _ {out : Sources} {i : ℕ} (g : Passing img all start size out i) where
-    pub passing-more : i < all .count → (d : Source) {r : Source} → Passed img (getD (out .rows) i d) start size r
-        → Passing img all start size (record { rows = set (out .rows) i r; count = out .count }) (i + 1)
-    passing-more h d {r} w =
-        let wide = g .whole .wide in
-        let few = g .whole .few in
-        let same = g .count in
+  module _ {new : List ℕ} {i : ℕ} (g : Passing img old n start size new i) where
+    pub passing-more : n ≤ 35 → i < n → {s r : Source} → s ≡ sourceAt new i → Passed img s start size r → {k : List ℕ} → k ≡ withSourceAt new i r → Passing img old n start size k (i + 1)
+    passing-more few h {s} {r} e w d =
+        let wide = g .wide in
+        let long = sources-long 35 new (omega arith) in
+        let this = source-at new i s (omega arith) ∙ sym e in
         record {
           low = omega arith;
-          count = same;
-          whole = record { wide = rw length-set wide; few = few };
-          are = rw add-one (pass-one img (part img start size) (out .rows) i (map (sourceRows img) (all .rows)) r d (omega arith) (g .are) (w .is));
+          wide = rw d (rw length-set (rw length-set (rw length-set wide)));
+          are = rw (d, source-set new i r, add-one) (pass-one img (part img start size) (sourcesIn new) i (map (sourceRows img) (sourcesIn old)) r s (omega arith) (g .are) (rw this (w .is)));
         }
 
-    pub passing-all : all .count ≤ i → PassedAll img all start size out
-    passing-all h =
+    pub passing-all : n ≤ 35 → n ≤ i → PassedAll img (sources old n) start size (sources new n)
+    passing-all few h =
         let low = g .low in
-        let z : i ≡ all .count = omega arith in
-        record { are = rw (g .count) (pass-taken img (part img start size) (all .count) (out .rows) (all .rows) (rw z at (g .are))); whole = g .whole }
+        let z : i ≡ n = omega arith in
+        record { are = pass-taken img (part img start size) n (sourcesIn new) (sourcesIn old) (rw z at (g .are)); whole = record { wide = g .wide; few = few } }

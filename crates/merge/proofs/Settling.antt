@@ -13,11 +13,9 @@ use Rattle.wire.specs.Orders.{byBytes}
 use Rattle.wire.specs.Reading.{part}
 use Rattle.merge.specs.Pile.{passAll, total, least, decisions}
 use Rattle.merge.specs.Sources.{rowAt}
-use Rattle.merge.specs.Merges.{sourcesOf, Least, PassedAll, Ready, givenBy, plainRow, decidedRows, mergeRows, Settles, countOf}
-use Rattle.nodes.specs.declared.part.Part.{Part}
+use Rattle.merge.specs.Merges.{sourcesOf, Least, PassedAll, Ready, givenBy, plainRow, decidedRows, mergeRows, mergeOf, Gives, countOf}
 use Rattle.merge.specs.declared.source.Head.{Head}
 use Rattle.merge.specs.declared.merge.Sources.{Sources}
-use Rattle.merge.specs.declared.merge.Merge.{Merge}
 use Rattle.merge.specs.declared.merge.Counted.the-variants as C
 use Rattle.merge.proofs.Piles.{ascend-pass}
 use Rattle.merge.proofs.Unite.{decisions-end, decisions-step, decisions-fewer}
@@ -35,11 +33,11 @@ pub settling-none : {img : List ℕ} {all : Sources} → Ready img all → Settl
 settling-none r = record { same = refl; ready = r }
 
 module _ {img : List ℕ} {all rest : Sources} (g : Settling img all rest) {best : Head} (l : Least img rest best) where
-  pub settled-none : {v : Part} → best .more ≡ false → Settles img all (record { all = rest; more = false; start = 0; «length» = 0; inode = 0; value = v })
+  pub settled-none : best .more ≡ false → Gives img all best rest
   settled-none e =
       let n : least byBytes (sourcesOf img rest) ≡ none = rw e at (l .is) in
       let d = g .same ∙ decisions-end byBytes (sourcesOf img rest) n in
-      record { gives = d; rows = ap (map plainRow) d; ready = g .ready }
+      record { settles = record { gives = rw e d; rows = rw e (ap (map plainRow) d); ready = g .ready } }
 
   module _ (h : best .more ≡ true) {next : Sources} (p : PassedAll img rest (best .start) (best .length) next) where
     found : least byBytes (sourcesOf img rest) ≡ some (rowAt img best)
@@ -54,40 +52,43 @@ module _ {img : List ℕ} {all rest : Sources} (g : Settling img all rest) {best
     pub settling-more : best .given ≡ false → Settling img all next
     settling-more e = record { same = g .same ∙ decisions-step byBytes (sourcesOf img rest) found (g .ready .ascend) ∙ rw (e, p .are); ready = next-ready }
 
-    pub settled-given : best .given ≡ true → Settles img all (record { all = next; more = true; start = best .start; «length» = best .length; inode = best .inode; value = best .value })
+    pub settled-given : best .given ≡ true → Gives img all best next
     settled-given e =
         let z : length (part img (best .start) (best .length)) ≡ best .length = length-take-le (best .length) (drop (best .start) img) (omega (arith, length-drop (best .start) img, l .inside .ends)) in
         let d = g .same ∙ decisions-step byBytes (sourcesOf img rest) found (g .ready .ascend) in
-        record { gives = d ∙ rw (e, p .are); rows = ap (map plainRow) d ∙ rw (e, p .are, z); ready = next-ready }
+        record { settles = record { gives = d ∙ rw (e, h, p .are); rows = ap (map plainRow) d ∙ rw (e, h, p .are, z); ready = next-ready } }
 
 -- ---- how many
 
-pub record Counting (img : List ℕ) (merge : Merge) (room : ℕ) (rest : Merge) (n : ℕ) : Type 0 where
-  pub are : length (mergeRows img merge) ≡ n + length (mergeRows img rest)
+pub record Counting (img : List ℕ) (room : ℕ) (h₀ : Head) (rest₀ : Sources) (h : Head) (rest : Sources) (n : ℕ) : Type 0 where
+  pub are : length (mergeRows img (mergeOf h₀ rest₀)) ≡ n + length (mergeRows img (mergeOf h rest))
   pub low : n ≤ room
-  pub ready : Ready img (rest .all)
+  pub ready : Ready img rest
 
-pub counting-none : {img : List ℕ} {merge : Merge} {room : ℕ} → Ready img (merge .all) → Counting img merge room merge 0
-counting-none r = record { are = omega arith; low = omega arith; ready = r }
+pub counting-none : {img : List ℕ} {all : Sources} {room : ℕ} {h : Head} {rest : Sources} → Gives img all h rest → Counting img room h rest h rest 0
+counting-none t = record { are = omega arith; low = omega arith; ready = t .settles .ready }
 
-module _ {img : List ℕ} {merge : Merge} {room : ℕ} {rest : Merge} {n : ℕ} (g : Counting img merge room rest n) where
-  pub counting-all : rest .more ≡ false → C.Rows n ≡ countOf (length (mergeRows img merge)) room
+module _ {img : List ℕ} {all : Sources} {room : ℕ} {h₀ h : Head} {rest₀ rest : Sources} {n : ℕ} (t₀ : Gives img all h₀ rest₀) (g : Counting img room h₀ rest₀ h rest n) where
+  all-rows : length (decidedRows img all) ≡ n + length (mergeRows img (mergeOf h rest))
+  all-rows = ap length (t₀ .settles .rows) ∙ g .are
+
+  pub counting-all : h .more ≡ false → C.Rows n ≡ countOf (length (decidedRows img all)) room
   counting-all e =
-      let z : length (mergeRows img merge) ≡ n = rw e at (g .are) ∙ omega arith in
+      let z : length (decidedRows img all) ≡ n = rw e at all-rows ∙ omega arith in
       let low = g .low in
       rw (z, le-ltb room n low)
 
-  pub counting-full : rest .more ≡ true → room ≤ n → C.TooMany ≡ countOf (length (mergeRows img merge)) room
-  counting-full e h =
-      let z = rw e at (g .are) in
-      rw (lt-ltb room (length (mergeRows img merge)) (omega (arith, z)))
+  pub counting-full : h .more ≡ true → room ≤ n → C.TooMany ≡ countOf (length (decidedRows img all)) room
+  counting-full e k =
+      let z = rw e at all-rows in
+      rw (lt-ltb room (length (decidedRows img all)) (omega (arith, z)))
 
-  module _ (e : rest .more ≡ true) {next : Merge} (t : Settles img (rest .all) next) where
-    one-row : length (mergeRows img rest) ≡ 1 + length (mergeRows img next)
-    one-row = rw (e, t .rows) (omega arith)
+module _ {img : List ℕ} {room : ℕ} {h₀ h : Head} {rest₀ rest : Sources} {n : ℕ} (g : Counting img room h₀ rest₀ h rest n) (e : h .more ≡ true) {next : Head} {past : Sources} (t : Gives img rest next past) where
+  one-row : length (mergeRows img (mergeOf h rest)) ≡ 1 + length (mergeRows img (mergeOf next past))
+  one-row = rw (e, t .settles .rows) (omega arith)
 
-    pub counting-less : length (mergeRows img next) < length (mergeRows img rest)
-    counting-less = omega (arith, one-row)
+  pub counting-less : length (mergeRows img (mergeOf next past)) < length (mergeRows img (mergeOf h rest))
+  counting-less = omega (arith, one-row)
 
-    pub counting-more : n < room → Counting img merge room next (n + 1)
-    counting-more h = record { are = omega (arith, g .are, one-row); low = omega arith; ready = t .ready }
+  pub counting-more : n < room → Counting img room h₀ rest₀ next past (n + 1)
+  counting-more k = record { are = omega (arith, g .are, one-row); low = omega arith; ready = t .settles .ready }

@@ -5,7 +5,7 @@ use mathlib.Core.Bool.{Bool, true, false, cond}
 use lib.Dec.{ltb}
 use mathlib.Core.List.{List, [], _∷_, _++_, map}
 use Prim.Native.Nat.{ℕ, _+_, _≤_}
-use lib.ListN.{length, take, set}
+use lib.ListN.{length, take}
 use Rattle.wire.specs.Orders.{byBytes}
 use Rattle.wire.specs.Reading.{part}
 use Rattle.image.specs.Meaning.{Text}
@@ -16,6 +16,7 @@ use Rattle.nodes.specs.declared.option.OptionPart.the-variants as P
 use Rattle.rules.specs.ReadCalls.{Row, rowOf}
 use Rattle.merge.specs.Pile.{pass, passAll, Ascend, upper, least, decisions}
 use Rattle.merge.specs.Sources.{Given, Decided, listRows, sourceRows, rowAt, rowsIfMore, Inside}
+use Rattle.merge.specs.Slots.{sourcesIn}
 use Rattle.merge.specs.declared.source.Source.{Source}
 use Rattle.merge.specs.declared.source.Head.{Head}
 use Rattle.merge.specs.declared.merge.Sources.{Sources}
@@ -27,26 +28,27 @@ use Rattle.merge.specs.declared.merge.Counted.the-variants as C
 
 -- the rows of each source, the topmost first
 abbrev pub sourcesOf : List ℕ → Sources → List (List Decided)
-sourcesOf img all = map (sourceRows img) (take (all .count) (all .rows))
+sourcesOf img all = map (sourceRows img) (take (all .count) (sourcesIn (all .rows)))
+
+-- those that lent numbers say
+abbrev pub sources : List ℕ → ℕ → Sources
+sources l n = record { rows = l; count = n }
 
 -- the array is whole
 pub record Whole (all : Sources) : Type 0 where
-  pub wide : length (all .rows) ≡ 35
+  pub wide : length (all .rows) ≡ 105
   pub few : all .count ≤ 35
 
 pub record NoSources (r : Sources) : Type 0 where
   pub whole : Whole r
   pub none-yet : r .count ≡ 0
 
-abbrev pub withSource : Sources → Source → Sources
-withSource all s = record { rows = set (all .rows) (all .count) s; count = all .count + 1 }
-
 -- the list of a part, as a source
 abbrev pub listsIf : List ℕ → Under → OptionPart → List (List Decided)
 listsIf img u (P.Some p) = listRows img u (p .start) ∷ []
 listsIf img u P.None = []
 
--- at most two lists: how many, their rows, and sources with them beneath
+-- at most two lists: how many, and their rows
 abbrev pub howMany : AtMostTwo → ℕ
 howMany F.None = 0
 howMany (F.One s) = 1
@@ -57,16 +59,17 @@ rowsIn img F.None = []
 rowsIn img (F.One s) = sourceRows img s ∷ []
 rowsIn img (F.Two s t) = sourceRows img s ∷ (sourceRows img t ∷ [])
 
-abbrev pub withLists : Sources → AtMostTwo → Sources
-withLists all F.None = all
-withLists all (F.One s) = withSource all s
-withLists all (F.Two s t) = withSource (withSource all s) t
-
 -- lists more, beneath the others
 pub record Pushes (img : List ℕ) (all : Sources) (lists : List (List Decided)) (r : Sources) : Type 0 where
   pub are : sourcesOf img r ≡ sourcesOf img all ++ lists
   pub more : r .count ≡ all .count + length lists
   pub whole : Whole r
+
+abbrev pub PushesLists : List ℕ → ℕ → AtMostTwo → ℕ → List ℕ → Type 0
+PushesLists old n lists r new = (img : List ℕ) → Pushes img (sources old n) (rowsIn img lists) (sources new r)
+
+abbrev pub PushesOne : List ℕ → ℕ → Source → ℕ → List ℕ → Type 0
+PushesOne old n s r new = PushesLists old n (F.One s) r new
 
 -- a row, if there is one
 abbrev pub rowIf : Bool → Decided → Option Decided
@@ -127,6 +130,13 @@ pub record Settles (img : List ℕ) (all : Sources) (m : Merge) : Type 0 where
   pub gives : givenBy img all ≡ mergeGives img m
   pub rows : decidedRows img all ≡ mergeRows img m
   pub ready : Ready img (m .all)
+
+-- the same of a row and the sources past it
+abbrev pub mergeOf : Head → Sources → Merge
+mergeOf h rest = record { all = rest; more = h .more; start = h .start; «length» = h .length; inode = h .inode; value = h .value }
+
+pub record Gives (img : List ℕ) (all : Sources) (h : Head) (rest : Sources) : Type 0 where
+  pub settles : Settles img all (mergeOf h rest)
 
 -- how many rows there are, if there is room for them
 abbrev pub countOf : ℕ → ℕ → Counted

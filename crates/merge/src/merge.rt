@@ -2,13 +2,13 @@
 ghost use Prim.Native.Nat.{_+_, _≤_, _<_};
 ghost use lib.ListN.{length};
 ghost use mathlib.Core.Path.{_≡_};
-ghost use Rattle.merge.specs.Merges.{Whole, NoSources, howMany, withSource, withLists, listsIf, rowsIn, Upper, Least, Passed, PassedAll, Ready, mergeRows, Settles, countOf};
+ghost use Rattle.merge.specs.Merges.{Whole, NoSources, howMany, PushesOne, PushesLists, listsIf, rowsIn, sources, Upper, Least, Passed, PassedAll, Ready, decidedRows, Gives, Settles, countOf};
+use crate::slots::set_source;
+use crate::slots::source_of;
 use crate::source::Head;
 use crate::source::Source;
 use crate::source::head_of;
 use crate::source::no_head;
-use crate::source::no_source;
-use crate::source::no_value;
 use crate::source::source_at;
 use image::name::Under;
 use nodes::option::OptionPart;
@@ -17,9 +17,9 @@ use wire::order::Ordering;
 use wire::order::compare_part;
 use wire::part::part;
 
-// The sources of a listing, `count` of them, the topmost first: at most two lists of each record, and one of the base.
+// The sources of a listing, `count` of them, the topmost first: at most two lists of each record, and one of the base. Three numbers of each.
 pub struct Sources {
-    pub rows: [Source; 35],
+    pub rows: [u64; 105],
     pub count: usize,
 }
 
@@ -49,31 +49,34 @@ pub enum Counted {
 pub fn no_sources() -> Sources
     ensures { λ r. ⌜ NoSources r ⌝ }
 {
-    let none = no_source();
-    let rows = [none; 35];
-    Sources { rows, count: 0 }
+    Sources {
+        rows: [0; 105],
+        count: 0,
+    }
 }
 
-// Lists more, beneath the others.
-pub fn push_lists(all: Sources, lists: AtMostTwo) -> Sources
-    requires { ⌜ (all .count + howMany lists ≤ 35) × (length (all .rows) ≡ 35) ⌝ }
-    ensures { λ r. ⌜ r ≡ withLists all lists ⌝ }
+// One source more, beneath the others. Answers how many they are.
+fn push_source(rows: &mut [u64; 105], count: usize, source: Source) -> usize
+    requires { ⌜ (count < 35) × (length (now rows) ≡ 105) ⌝ }
+    ensures { λ r. ⌜ PushesOne (now (rows .entry)) count source r (now (rows .exit)) ⌝ }
 {
-    let at = all.count;
-    let mut out = all;
+    set_source(rows, count, source);
+    count + 1
+}
+
+// Lists more, beneath the others. Answers how many there are.
+pub fn push_lists(rows: &mut [u64; 105], count: usize, lists: AtMostTwo) -> usize
+    requires { ⌜ (count + howMany lists ≤ 35) × (length (now rows) ≡ 105) ⌝ }
+    ensures { λ r. ⌜ PushesLists (now (rows .entry)) count lists r (now (rows .exit)) ⌝ }
+{
     match lists {
-        AtMostTwo::None => {}
-        AtMostTwo::One(source) => {
-            out.rows[at] = source;
-            out.count = at + 1;
-        }
+        AtMostTwo::None => count,
+        AtMostTwo::One(source) => push_source(rows, count, source),
         AtMostTwo::Two { over, under } => {
-            out.rows[at] = over;
-            out.rows[at + 1] = under;
-            out.count = at + 2;
+            let next = push_source(rows, count, over);
+            push_source(rows, next, under)
         }
     }
-    out
 }
 
 // The list at a part of the image, if there is one.
@@ -109,15 +112,15 @@ fn upper(img: &[u8], over: Head, under: Head) -> Head
 }
 
 // The least name that stands first, as the topmost of the sources that have it says.
-fn least(img: &[u8], all: Sources) -> Head
-    requires { ⌜ Whole all ⌝ }
-    ensures { λ r. ⌜ Least (now (img .entry)) all r ⌝ }
+fn least(img: &[u8], rows: &[u64; 105], count: usize) -> Head
+    requires { ⌜ Whole (sources (now rows) count) ⌝ }
+    ensures { λ r. ⌜ Least (now (img .entry)) (sources (now (rows .entry)) count) r ⌝ }
 {
-    let mut i = all.count;
+    let mut i = count;
     let mut best = no_head();
     while 0 < i {
         i -= 1;
-        best = upper(img, head_of(img, all.rows[i]), best);
+        best = upper(img, head_of(img, source_of(rows, i)), best);
     }
     best
 }
@@ -143,68 +146,70 @@ fn passed(img: &[u8], source: Source, start: usize, length: usize) -> Source
 }
 
 // Moves each source past the name, if it is at it.
-fn pass_all(img: &[u8], all: Sources, start: usize, length: usize) -> Sources
-    requires { ⌜ Whole all ⌝ }
-    ensures { λ r. ⌜ PassedAll (now (img .entry)) all start length r ⌝ }
+fn pass_all(img: &[u8], rows: &mut [u64; 105], count: usize, start: usize, length: usize)
+    requires { ⌜ Whole (sources (now rows) count) ⌝ }
+    ensures { λ r. ⌜ PassedAll (now (img .entry)) (sources (now (rows .entry)) count) start length (sources (now (rows .exit)) count) ⌝ }
 {
-    let mut out = all;
     let mut i: usize = 0;
-    while i < all.count {
-        let source = out.rows[i];
-        out.rows[i] = passed(img, source, start, length);
+    while i < count {
+        let source = source_of(rows, i);
+        set_source(rows, i, passed(img, source, start, length));
         i += 1;
     }
-    out
 }
 
-// Passes names up to the first that is given.
+// The first name that is given, if there is one; the sources are moved past it.
+pub fn next_given(img: &[u8], rows: &mut [u64; 105], count: usize) -> Head
+    requires { ⌜ Ready (now img) (sources (now rows) count) ⌝ }
+    ensures { λ r. ⌜ Gives (now (img .entry)) (sources (now (rows .entry)) count) r (sources (now (rows .exit)) count) ⌝ }
+{
+    loop {
+        let best = least(img, rows, count);
+        if best.more {
+            pass_all(img, rows, count, best.start, best.length);
+            if best.given {
+                return best;
+            }
+        } else {
+            return best;
+        }
+    }
+}
+
+// The same by value.
 pub fn settle(img: &[u8], all: Sources) -> Merge
     requires { ⌜ Ready (now img) all ⌝ }
     ensures { λ r. ⌜ Settles (now (img .entry)) all r ⌝ }
 {
-    let mut rest = all;
-    loop {
-        let best = least(img, rest);
-        let value = best.value;
-        if best.more {
-            rest = pass_all(img, rest, best.start, best.length);
-            if best.given {
-                return Merge {
-                    all: rest,
-                    more: true,
-                    start: best.start,
-                    length: best.length,
-                    inode: best.inode,
-                    value,
-                };
-            }
-        } else {
-            return Merge {
-                all: rest,
-                more: false,
-                start: 0,
-                length: 0,
-                inode: 0,
-                value: no_value(),
-            };
-        }
+    let mut rows = all.rows;
+    let count = all.count;
+    let head = next_given(img, &mut rows, count);
+    let value = head.value;
+    Merge {
+        all: Sources { rows, count },
+        more: head.more,
+        start: head.start,
+        length: head.length,
+        inode: head.inode,
+        value,
     }
 }
 
 // Counts the rows, up to `room`.
-pub fn count_rows(img: &[u8], merge: Merge, room: usize) -> Counted
-    requires { ⌜ Ready (now img) (merge .all) ⌝ }
-    ensures { λ r. ⌜ r ≡ countOf (length (mergeRows (now (img .entry)) merge)) room ⌝ }
+pub fn count_rows(img: &[u8], all: Sources, room: usize) -> Counted
+    requires { ⌜ Ready (now img) all ⌝ }
+    ensures { λ r. ⌜ r ≡ countOf (length (decidedRows (now (img .entry)) all)) room ⌝ }
 {
-    let mut rest = merge;
+    let mut rows = all.rows;
+    let sources = all.count;
+    let mut head = next_given(img, &mut rows, sources);
     let mut count: usize = 0;
-    while rest.more {
+    while head.more {
         if room <= count {
             return Counted::TooMany;
         }
         count += 1;
-        let all = rest.all;
-        rest = settle(img, all);
+        head = next_given(img, &mut rows, sources);
     }
     Counted::Rows(count)
 }

@@ -14,7 +14,7 @@ use wire::text::read_text;
 // A list by name, of which `left` rows stand from `at` on.
 pub struct Source {
     pub at: usize,
-    pub left: u32,
+    pub left: u64,
     pub what: Under,
 }
 
@@ -190,7 +190,7 @@ pub fn source_at(img: &[u8], at: usize, what: Under) -> Source
     match next {
         Cursor::At(first) => Source {
             at: first,
-            left: count.value as u32,
+            left: count.value,
             what,
         },
         Cursor::Stop(_) => no_source(),

@@ -7,30 +7,26 @@ use Rattle.merge.proofs.merge.pass_all.Tie as tie
 use Rattle.merge.proofs.merge.pass_all.Reads as reads
 use Rattle.merge.proofs.merge.pass_all.Lts as lts
 use Rattle.merge.proofs.merge.passed.Reads as passed-reads
+use Rattle.merge.proofs.slots.set_source.Reads as set-source-reads
+use Rattle.merge.proofs.slots.source_of.Reads as source-of-reads
 
 abbrev Inv-loop : tie.InvT-loop
-Inv-loop img all start length out₀ i₀ out i = Passing img all start length out i
+Inv-loop img rows₀ count start length i₀ rows i = Passing img rows₀ count start length rows i
 
 abbrev μ-loop : tie.MeasureT-loop
-μ-loop img all start length out₀ i₀ out i = all .count - i
+μ-loop img rows₀ count start length i₀ rows i = count - i
 
 loop-holds : tie.Need-loop-holds Inv-loop μ-loop
-loop-holds c = search passing-none
+loop-holds c = passing-none ((c .before .pre) .wide)
 
-mul-source : tie.Need-mul-source Inv-loop μ-loop
-mul-source c = search needs
-
-element-copy-out-source : tie.Need-element-copy-out-source Inv-loop μ-loop
-element-copy-out-source c = search needs
+source-of-requires : tie.Need-source-of-requires Inv-loop μ-loop
+source-of-requires c κs = omega (arith, (c .before .before .before .before .pre) .few)
 
 passed-requires : tie.Need-passed-requires Inv-loop μ-loop
 passed-requires c κs = search needs
 
-mul-t9 : tie.Need-mul-t9 Inv-loop μ-loop
-mul-t9 c = search needs
-
-element-set-from-out : tie.Need-element-set-from-out Inv-loop μ-loop
-element-set-from-out c = search needs
+set-source-requires : tie.Need-set-source-requires Inv-loop μ-loop
+set-source-requires c κs = omega (arith, (c .before .before .before .before .before .before .before .pre) .few)
 
 add-i : tie.Need-add-i Inv-loop μ-loop
 add-i c = search needs
@@ -39,10 +35,10 @@ loop-less : tie.Need-loop-less Inv-loop μ-loop
 loop-less c = search needs
 
 loop-again : tie.Need-loop-again Inv-loop μ-loop
-loop-again c = passing-more (c .before .before .before .before .loop .inv) (omega arith) _ (c .passed .ensures)
+loop-again c = passing-more (c .before .before .before .before .before .before .loop .inv) ((c .before .before .before .before .before .before .before .before .pre) .few) (omega arith) (c .before .before .before .source-of .ensures) (c .before .passed .ensures) (c .set-source .ensures)
 
 returns : tie.Need-returns Inv-loop μ-loop
-returns c = search (passing-all, arith)
+returns c = passing-all (c .before .loop .inv) ((c .before .before .before .pre) .few) (omega arith)
 
 pub pass-all-spec : {M : Type 1} → statement M
 pass-all-spec =
@@ -51,11 +47,9 @@ pass-all-spec =
     Inv-loop
     μ-loop
     loop-holds
-    mul-source
-    element-copy-out-source
+    source-of-requires
     passed-requires
-    mul-t9
-    element-set-from-out
+    set-source-requires
     add-i
     loop-less
     loop-again

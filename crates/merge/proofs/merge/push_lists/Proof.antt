@@ -1,11 +1,12 @@
-use mathlib.Core.Path.{_≡_, refl}
-use Prim.Native.Nat.{_+_}
+use Rattle.merge.proofs.Merging.{push-none, push-two}
 use native.Mathlib.Omega.{arith}
+use mathlib.Core.List.{[]}
 use borrow.Author.Needs.{needs}
 use Rattle.merge.proofs.merge.push_lists.Statement.{statement}
 use Rattle.merge.proofs.merge.push_lists.Tie as tie
 use Rattle.merge.proofs.merge.push_lists.Reads as reads
 use Rattle.merge.proofs.merge.push_lists.Lts as lts
+use Rattle.merge.proofs.merge.push_source.Reads as push-source-reads
 
 enum-told : tie.Need-enum-told
 enum-told c = search needs
@@ -13,44 +14,26 @@ enum-told c = search needs
 enum-known-lists : tie.Need-enum-known-lists
 enum-known-lists c = search needs
 
-mul-source : tie.Need-mul-source
-mul-source c = search needs
-
-element-set-from-source : tie.Need-element-set-from-source
-element-set-from-source c = omega (arith, rw (c .before .lists .given .1) at (c .before .before .before .pre .0), c .before .before .before .pre .1)
-
-add-out : tie.Need-add-out
-add-out c = search needs
+push-source-requires : tie.Need-push-source-requires
+push-source-requires c κs = (omega (arith, rw (c .before .before .lists .given .1) at ((c .before .before .before .before .pre) .0)), (c .before .before .before .before .pre) .1)
 
 enum-known-lists-2 : tie.Need-enum-known-lists-2
 enum-known-lists-2 c = search needs
 
-mul-over : tie.Need-mul-over
-mul-over c = search needs
+push-source-requires-2 : tie.Need-push-source-requires-2
+push-source-requires-2 c κs = (omega (arith, rw (c .before .before .lists2 .given .1) at ((c .before .before .before .before .pre) .0)), (c .before .before .before .before .pre) .1)
 
-element-set-from-over : tie.Need-element-set-from-over
-element-set-from-over c = omega (arith, rw (c .before .lists2 .given .1) at (c .before .before .before .pre .0), c .before .before .before .pre .1)
-
-add-under : tie.Need-add-under
-add-under c = search needs
-
-mul-under : tie.Need-mul-under
-mul-under c = search needs
-
-element-set-from-under : tie.Need-element-set-from-under
-element-set-from-under c = omega (arith, rw (c .before .lists2 .given .1) at (c .before .before .before .pre .0), c .before .before .before .pre .1)
-
-add-out-2 : tie.Need-add-out-2
-add-out-2 c = search needs
+push-source-requires-3 : tie.Need-push-source-requires-3
+push-source-requires-3 c κs = (omega (arith, c .before .push-source2 .ensures [] .more, rw (c .before .before .before .before .lists2 .given .1) at ((c .before .before .before .before .before .before .pre) .0)), c .before .push-source2 .ensures [] .whole .wide)
 
 returns : tie.Need-returns
-returns c = search needs
+returns c = rw (c .enum-told .given .1) (push-none ((c .before .before .pre) .1) (omega (arith, (c .before .before .pre) .0)))
 
 returns-2 : tie.Need-returns-2
-returns-2 c = rw (c .before .lists .given .1) refl
+returns-2 c = rw (c .before .before .before .lists .given .1) (c .push-source .ensures)
 
 returns-3 : tie.Need-returns-3
-returns-3 c = let z : c .before .before .before .args .all .count + 2 ≡ c .before .before .before .args .all .count + 1 + 1 = omega arith in rw (c .before .lists2 .given .1, z) refl
+returns-3 c = rw (c .before .before .before .before .before .lists2 .given .1) (push-two _ _ (c .before .before .push-source2 .ensures) (c .push-source3 .ensures))
 
 pub push-lists-spec : {M : Type 1} → statement M
 push-lists-spec =
@@ -58,16 +41,10 @@ push-lists-spec =
     (tie.spec
     enum-told
     enum-known-lists
-    mul-source
-    element-set-from-source
-    add-out
+    push-source-requires
     enum-known-lists-2
-    mul-over
-    element-set-from-over
-    add-under
-    mul-under
-    element-set-from-under
-    add-out-2
+    push-source-requires-2
+    push-source-requires-3
     returns
     returns-2
     returns-3)

@@ -1,5 +1,3 @@
-use native.Mathlib.Omega.{arith}
-use Rattle.wire.proofs.Readers.{number-most}
 use Rattle.merge.proofs.Sourced.{list-stop, list-rows}
 use borrow.Author.Needs.{needs}
 use Rattle.merge.proofs.source.source_at.Statement.{statement}
@@ -14,9 +12,6 @@ read-number-requires c κs = search needs
 
 enum-known-next : tie.Need-enum-known-next
 enum-known-next c = search needs
-
-cast-t9 : tie.Need-cast-t9
-cast-t9 c = omega (arith, number-most _ _ (c .before .before .before .before .read-number .ensures))
 
 enum-told : tie.Need-enum-told
 enum-told c = search needs
@@ -36,7 +31,6 @@ source-at-spec =
     (tie.spec
     read-number-requires
     enum-known-next
-    cast-t9
     enum-told
     no-source-requires
     returns
