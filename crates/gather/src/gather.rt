@@ -20,7 +20,6 @@ use image::name::Under;
 use merge::merge::AtMostTwo;
 use merge::merge::Sources;
 use merge::merge::list_if;
-use merge::merge::no_sources;
 use merge::merge::push_lists;
 use merge::source::source_at;
 use nodes::node::Node;
@@ -145,15 +144,21 @@ pub fn gather_sources(img: &[u8], stack: InodeLayerStack, lists: Lists) -> Sourc
     requires { ⌜ Stacked (now img) stack ⌝ }
     ensures { λ r. ⌜ Gathers (now (img .entry)) stack lists r ⌝ }
 {
-    let mut all = no_sources();
+    let mut rows = [0u64; 105];
+    let mut count: usize = 0;
     let mut i = stack.count;
     while 0 < i {
         i -= 1;
         let record = record_at(img, stack, i);
         if is_tombstone(record) {
-            return all;
+            return Sources { rows, count };
         }
-        all = push_lists(all, record_lists(img, record, lists));
+        count = push_lists(&mut rows, count, record_lists(img, record, lists));
     }
-    push_lists(all, base_lists(img, base_node(img, stack), lists))
+    count = push_lists(
+        &mut rows,
+        count,
+        base_lists(img, base_node(img, stack), lists),
+    );
+    Sources { rows, count }
 }

@@ -57,18 +57,18 @@ counted-many room count = go (ltb room count) refl
     go true h e = h
     go false h e = absurd (let z : _≡_ {A = ℕ} 0 1 = cc in omega arith)
 
-module _ {img : List ℕ} {s : InodeLayerStack} (l : Listing) {all : Sources} (g : Gathers img s (listsOf l) all) {m : Merge} (t : Settles img all m) where
-  same-rows : mergeRows img m ≡ rowsListed l (recordsIn img s) (nodeIn img s)
-  same-rows = sym (t .rows) ∙ gathered-rows l g
+module _ {img : List ℕ} {s : InodeLayerStack} (l : Listing) {all : Sources} (g : Gathers img s (listsOf l) all) where
+  pub planned : {room : ℕ} {c : Counted} → c ≡ countOf (length (decidedRows img all)) room → {n : ℕ} → c ≡ C.Rows n → {m : Merge} → Settles img all m
+      → Plans img (roomFor room (rowsListed l (recordsIn img s) (nodeIn img s))) room (record { merge = m; answer = A.Rows n })
+  planned {room} k {n} e t =
+      let z = counted-rows room (length (decidedRows img all)) n (sym k ∙ e) in
+      let low = ltb-false room (length (decidedRows img all)) (z .0) in
+      let same = ap length (t .rows) in
+      rw (← gathered-rows l g, z .0, t .rows) (record { answers = refl; fits = record { ready = t .ready; count = sym same ∙ z .1; small = omega (arith, low, z .1) } })
 
-  pub planned : {room : ℕ} {c : Counted} → c ≡ countOf (length (mergeRows img m)) room → {n : ℕ} → c ≡ C.Rows n → Plans img (roomFor room (rowsListed l (recordsIn img s) (nodeIn img s))) room (record { merge = m; answer = A.Rows n })
-  planned {room} k {n} e =
-      let z = counted-rows room (length (mergeRows img m)) n (sym k ∙ e) in
-      let low = ltb-false room (length (mergeRows img m)) (z .0) in
-      rw (← same-rows, z .0) (record { answers = refl; fits = record { ready = t .ready; count = z .1; small = omega (arith, low, z .1) } })
-
-  pub planned-few : {room : ℕ} {c : Counted} → c ≡ countOf (length (mergeRows img m)) room → {p : Plan} → c ≡ C.TooMany → NoRows (A.Refused 5) p → Plans img (roomFor room (rowsListed l (recordsIn img s) (nodeIn img s))) room p
-  planned-few {room} k e n = rw (← same-rows, counted-many room (length (mergeRows img m)) (sym k ∙ e)) (plan-none n refl)
+  pub planned-few : {room : ℕ} {c : Counted} → c ≡ countOf (length (decidedRows img all)) room → {p : Plan} → c ≡ C.TooMany → NoRows (A.Refused 5) p
+      → Plans img (roomFor room (rowsListed l (recordsIn img s) (nodeIn img s))) room p
+  planned-few {room} k e n = rw (← gathered-rows l g, counted-many room (length (decidedRows img all)) (sym k ∙ e)) (plan-none n refl)
 
 -- ---- rows filled from the front: so far i of them
 

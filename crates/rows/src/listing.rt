@@ -75,10 +75,10 @@ fn plan_rows(img: &[u8], stack: InodeLayerStack, listing: Listing, room: usize) 
     requires { ⌜ Stacked (now img) stack ⌝ }
     ensures { λ r. ⌜ Plans (now (img .entry)) (roomFor room (rowsListed listing (recordsIn (now (img .entry)) stack) (nodeIn (now (img .entry)) stack))) room r ⌝ }
 {
-    let merge = settle(img, gather_sources(img, stack, lists_of(listing)));
-    match count_rows(img, merge, room) {
+    let all = gather_sources(img, stack, lists_of(listing));
+    match count_rows(img, all, room) {
         Counted::Rows(count) => Plan {
-            merge,
+            merge: settle(img, all),
             answer: RowsAnswer::Rows(count),
         },
         Counted::TooMany => no_rows(RowsAnswer::Refused(5)),

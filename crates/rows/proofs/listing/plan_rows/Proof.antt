@@ -11,41 +11,32 @@ use Rattle.merge.proofs.merge.settle.Reads as settle-reads
 use Rattle.rows.proofs.listing.lists_of.Reads as lists-of-reads
 use Rattle.rows.proofs.listing.no_rows.Reads as no-rows-reads
 
--- src/listing.rt:78:56
 lists-of-requires : tie.Need-lists-of-requires
 lists-of-requires c κs = search needs
 
--- src/listing.rt:78:29
 gather-sources-requires : tie.Need-gather-sources-requires
 gather-sources-requires c κs = search needs
 
--- src/listing.rt:78:9
 settle-requires : tie.Need-settle-requires
-settle-requires c κs = gathered-ready (c .gather-sources .ensures)
+settle-requires c κs = gathered-ready (c .before .before .before .before .gather-sources .ensures)
 
--- src/listing.rt:79:11
 count-rows-requires : tie.Need-count-rows-requires
-count-rows-requires c κs = search needs
+count-rows-requires c κs = gathered-ready (c .gather-sources .ensures)
 
--- src/listing.rt:80:23
 enum-known-count : tie.Need-enum-known-count
 enum-known-count c = search needs
 
--- src/listing.rt:84:37
 enum-told : tie.Need-enum-told
 enum-told c = search needs
 
--- src/listing.rt:84:29
 no-rows-requires : tie.Need-no-rows-requires
 no-rows-requires c κs = search needs
 
--- src/listing.rt:74:1
 returns : tie.Need-returns
-returns c = planned (c .before .before .before .before .before .before .before .before .args .listing) (rw (c .before .before .before .before .before .before .lists-of .ensures) at (c .before .before .before .before .before .gather-sources .ensures)) (c .before .before .before .before .settle .ensures) (c .before .before .before .count-rows .ensures) (c .before .count .given .1)
+returns c = planned (c .before .before .before .before .before .before .before .before .args .listing) (rw (c .before .before .before .before .before .before .lists-of .ensures) at (c .before .before .before .before .before .gather-sources .ensures)) (c .before .before .before .before .count-rows .ensures) (c .before .before .count .given .1) (c .settle .ensures)
 
--- src/listing.rt:74:1
 returns-2 : tie.Need-returns-2
-returns-2 c = planned-few (c .before .before .before .before .before .before .before .before .args .listing) (rw (c .before .before .before .before .before .before .lists-of .ensures) at (c .before .before .before .before .before .gather-sources .ensures)) (c .before .before .before .before .settle .ensures) (c .before .before .before .count-rows .ensures) (c .before .enum-told .given .1) (c .no-rows .ensures)
+returns-2 c = planned-few (c .before .before .before .before .before .before .before .args .listing) (rw (c .before .before .before .before .before .lists-of .ensures) at (c .before .before .before .before .gather-sources .ensures)) (c .before .before .before .count-rows .ensures) (c .before .enum-told .given .1) (c .no-rows .ensures)
 
 pub plan-rows-spec : {M : Type 1} → statement M
 plan-rows-spec =
@@ -53,9 +44,9 @@ plan-rows-spec =
     (tie.spec
     lists-of-requires
     gather-sources-requires
-    settle-requires
     count-rows-requires
     enum-known-count
+    settle-requires
     enum-told
     no-rows-requires
     returns
