@@ -8,7 +8,7 @@ use Prim.Native.Nat.{ℕ, zero, suc, _+_, _-_, _≤_, _<_}
 use native.Mathlib.Omega.{arith}
 use native.Mathlib.Numerals.{add-one}
 use lib.Dec.{ltb}
-use lib.ListN.{length, take, drop, getD, length-set}
+use lib.ListN.{length, take, drop, getD}
 use lib.Seq.{take-suc}
 use borrow.Author.Tests.{ltb-true, ltb-false}
 use Rattle.wire.specs.declared.cursor.Cursor.{Cursor}
@@ -38,12 +38,12 @@ use Rattle.change.specs.Sections.{Spans, Stands}
 use Rattle.change.specs.declared.section.Sections.{Sections}
 use Rattle.change.proofs.Batches.{headOf, queueBytes, batches-bytes}
 use Rattle.change.proofs.Sections.{span-front, span-back, span-both, span-reads, ends-past}
-use Rattle.walk.specs.Runs.{ofNode, ofRecord, piece, Row, rowsRead, listRows, runRows, Sound, ListOf}
-use Rattle.walk.specs.Walks.{runsOn, sourcesOf, OverBase, withRun}
+use Rattle.walk.specs.Runs.{runAt, withRun, ofNode, ofRecord, piece, Row, rowsRead, listRows, runRows, ListOf}
+use Rattle.walk.specs.Walks.{walkOf, sourcesUnder, Whole}
 use Rattle.walk.specs.Opens.{nodeRows, recordRows, layersOn, lead, layerBytes, layerAt, Starts, Ends, LayersOf, OpensLayers}
 use Rattle.walk.specs.declared.run.Run.{Run}
-use Rattle.walk.specs.declared.walk.Walk.{Walk}
-use Rattle.walk.proofs.Stepping.{every-set, sources-set}
+use Rattle.walk.proofs.Running.{runs-length, run-set}
+use Rattle.walk.proofs.Stepping.{sources-set, layer-set}
 
 -- ---- the rows of a list that was written
 
@@ -128,24 +128,35 @@ pub record Given (img : List ℕ) (s : Store) (batches first n tail : ℕ) : Typ
   pub stands : Spans img first (layerBytes (s .batches) (s .live) 0) tail
   pub many : n ≤ length (layers s)
 
-pub record Opening (img : List ℕ) (n batches first end top : ℕ) (w : Walk) (i : ℕ) : Type 0 where
+pub record Opening (img : List ℕ) (n batches first end top : ℕ) (runs : List ℕ) (i : ℕ) : Type 0 where
   pub low : i ≤ n
-  pub wide : length (w .layers) ≡ 17
-  pub count : w .count ≡ i
-  pub opened : (s : Store) (tail : ℕ) → Given img s batches first n tail → LayersOf img s tail i w top end
+  pub wide : length runs ≡ 72
+  pub opened : (s : Store) (tail : ℕ) → Given img s batches first n tail → LayersOf img s tail i (walkOf runs i) top end
 
-pub opening-start : {img : List ℕ} {n batches first : ℕ} {w : Walk} → OverBase img w → Opening img n batches first first first w 0
-unfolding runsOn layersOn
-opening-start {img} {n} {batches} {first} {w} o = record {
-  low = omega arith;
-  wide = o .whole .wide;
-  count = o .none-yet;
-  opened = λ s tail g. let e : sourcesOf img w ≡ nodeRows (s .base) ∷ [] = rw (o .none-yet, o .are, g .nodes) in record {
-    over = record { ready = record { whole = o .whole; ascend = rw e (over-ascend (s .base) []) }; are = e };
-    top = λ h. absurd (omega arith);
-    rest = g .stands;
-  };
-}
+module _ {img : List ℕ} {base : Run} (o : ListOf img H.Node 0 base) (old : List ℕ) (l : length old ≡ 72) where
+  base-is : runAt (withRun old 0 base) 0 ≡ base
+  base-is = run-set old 0 base (omega arith)
+
+  base-source : sourcesUnder img (withRun old 0 base) 0 ≡ listRows H.Node img ∷ []
+  unfolding sourcesUnder
+  base-source = rw (base-is, o .are)
+
+  base-whole : Whole img (walkOf (withRun old 0 base) 0)
+  base-whole = record { wide = runs-length old 0 base ∙ l; few = omega arith; base = rw base-is (o .sound); sound = λ i h. absurd (omega arith) }
+
+  pub opening-start : {n batches first : ℕ} {runs : List ℕ} → runs ≡ withRun old 0 base → Opening img n batches first first first runs 0
+  unfolding layersOn
+  opening-start e =
+      rw e
+      (record {
+        low = omega arith;
+        wide = base-whole .wide;
+        opened = λ s tail g. record {
+          over = record { ready = record { whole = base-whole; ascend = rw (base-source, g .nodes) (over-ascend (s .base) []) }; are = rw (base-source, g .nodes) };
+          top = λ h. absurd (omega arith);
+          rest = g .stands;
+        };
+      })
 
 -- where the records of a layer start
 starts-at : {img : List ℕ} (s : Store) (i : ℕ) {batches here q r : ℕ} → FitsStore s → batches ≡ length (s .batches) → Starts img here (ltb i batches) r
@@ -164,9 +175,9 @@ starts-at {img} s i {batches} {here} {q} {r} f e t w = go (ltb i batches) refl t
         let z = rw (lead-live (s .batches) i (omega arith)) at w in
         omega (arith, t .plain refl, z .ends)
 
-module _ {img : List ℕ} {n batches first end top : ℕ} {w : Walk} {i : ℕ} (g : Opening img n batches first end top w i) (h : i < n) (k : n ≤ 17)
+module _ {img : List ℕ} {n batches first end top : ℕ} {runs : List ℕ} {i : ℕ} (g : Opening img n batches first end top runs i) (h : i < n) (k : n ≤ 17)
     {at : ℕ} (t : Starts img end (ltb i batches) at) {run : Run} (l : ListOf img H.Record at run) {to : ℕ} (e : Ends img at to) where
-  layer-opened : (s : Store) (tail : ℕ) → Given img s batches first n tail → LayersOf img s tail (i + 1) (withRun w run) at to
+  layer-opened : (s : Store) (tail : ℕ) → Given img s batches first n tail → LayersOf img s tail (suc i) (walkOf (withRun runs (suc i) run) (suc i)) at to
   layer-opened s tail v =
       let u = g .opened s tail v in
       let bs = s .batches in
@@ -183,25 +194,22 @@ module _ {img : List ℕ} {n batches first end top : ℕ} {w : Walk} {i : ℕ} (
       let p = ends-past records {a = x} at (e .next) (omega (arith, first .within)) fits d (e .ends) in
       let y : to ≡ at + length (records .write x) = e .place ∙ p .spans .ends in
       let rows : runRows img H.Record run ≡ recordRows x = l .are ∙ rw d (list-are H.Record x (after ++ drop tail img) fits) in
-      let wide = g .wide in
-      let count = g .count in
-      let are : sourcesOf img (withRun w run) ≡ layersOn (take (i + 1) (layers s)) (nodeRows (s .base) ∷ []) =
-      sources-set img w (w .count) run (omega arith) ∙ rw (rows, u .over .are, add-one, take-suc (layers s) i (empty byNumber) lt, layers-snoc) in
-      let o = u .over .ready .whole in
+      let are : sourcesUnder img (withRun runs (suc i) run) (suc i) ≡ layersOn (take (suc i) (layers s)) (nodeRows (s .base) ∷ []) =
+      sources-set img runs i run (omega arith) (g .wide) ∙ rw (rows, u .over .are, take-suc (layers s) i (empty byNumber) lt, layers-snoc) in
       record {
         over = record {
           ready = record {
-            whole = record { wide = rw length-set wide; few = omega arith; base = o .base; sound = every-set (Sound img H.Record) (w .layers) (w .count) run (o .sound) (l .sound) };
-            ascend = rw are (over-ascend (s .base) (take (i + 1) (layers s)));
+            whole = layer-set (u .over .ready .whole) (omega arith) (l .sound) (suc i) (omega arith) (λ j m d. omega arith);
+            ascend = rw are (over-ascend (s .base) (take (suc i) (layers s)));
           };
           are = are;
         };
-        top = λ j. let q : i + 1 - 1 ≡ i = omega arith in rw (q, y) first;
-        rest = rw (y, add-one) (span-back (records .write x) after b);
+        top = λ j. let q : suc i - 1 ≡ i = omega arith in rw (q, y) first;
+        rest = rw y (span-back (records .write x) after b);
       }
 
-  pub opening-more : {out : Walk} → out ≡ withRun w run → Opening img n batches first to at out (i + 1)
-  opening-more z = rw z (record { low = omega arith; wide = rw length-set (g .wide); count = omega (arith, g .count); opened = layer-opened })
+  pub opening-more : {out : List ℕ} → out ≡ withRun runs (i + 1) run → Opening img n batches first to at out (i + 1)
+  opening-more z = rw (z, add-one) (record { low = omega arith; wide = runs-length runs (suc i) run ∙ g .wide; opened = layer-opened })
 
 pub layers-start : (bs : List Batch) (live : Layer) → layerBytes bs live 0 ≡ queueBytes bs ++ records .write live
 unfolding layerBytes queueBytes
@@ -225,8 +233,8 @@ module _ {img : List ℕ} {n count : ℕ} {first : Cursor} {p : Sections} (a : A
         many = m;
       }
 
-  pub opening-all : {f : ℕ} {end top : ℕ} {w : Walk} {i : ℕ} → f ≡ placeAt first → Opening img n count f end top w i → n ≤ i
-      → OpensLayers img p n (record { walk = w; top = top; end = end })
+  pub opening-all : {f : ℕ} {end top : ℕ} {runs : List ℕ} {i : ℕ} → f ≡ placeAt first → Opening img n count f end top runs i → n ≤ i
+      → OpensLayers img p n (record { walk = walkOf runs n; top = top; end = end })
   opening-all {i = i} e g h =
       let low = g .low in
       let z : i ≡ n = omega arith in

@@ -4,10 +4,11 @@ use mathlib.Core.Path.{_≡_, refl, sym, _∙_}
 use mathlib.Core.Option.{none, some}
 use mathlib.Core.Bool.{Bool, true, false}
 use mathlib.Core.List.{List, _∷_}
-use Prim.Native.Nat.{ℕ, zero, suc, _-_, _≤_}
+use Prim.Native.Nat.{ℕ, zero, suc, _+_, _*_, _-_, _≤_, _<_}
 use native.Mathlib.Omega.{arith}
 use lib.Dec.{eqb}
-use lib.ListN.{drop}
+use lib.ListN.{length, drop, getD, set, length-set}
+use lib.Seq.{getD-set-same, getD-set-other}
 use borrow.Author.Tests.{eqb-true, eqb-false}
 use Rattle.wire.specs.declared.cursor.Fault.{Fault}
 use Rattle.wire.specs.declared.cursor.Cursor.{Cursor}
@@ -28,9 +29,68 @@ use Rattle.passes.specs.declared.inode.Held.{Held}
 use Rattle.passes.specs.declared.inode.Place.the-variants as P
 use Rattle.image.proofs.Passing.{ends-got, ends-fault}
 use Rattle.merge.specs.Pile.{headIf, pass}
-use Rattle.walk.specs.Runs.{piece, Row, rowsIf, rowsRead, rowsLeft, runRows, Ended, Sound, RowsOf, ListOf, Has, Found, Passed}
+use Rattle.walk.specs.Runs.{runAt, withRun, piece, Row, rowsIf, rowsRead, rowsLeft, runRows, Ended, Sound, RowsOf, ListOf, Has, Found, Passed}
 use Rattle.rules.specs.Reads.{isThere}
 use Rattle.walk.specs.declared.run.Run.{Run}
+
+-- ---- runs in an array
+
+module _ (l : List ℕ) (i : ℕ) (r : Run) where
+  -- with one number of the run, two, and three
+  abbrev one : List ℕ
+  one = set l (i * 4) (r .inode)
+
+  abbrev two : List ℕ
+  two = set one (i * 4 + 1) (r .place)
+
+  abbrev three : List ℕ
+  three = set two (i * 4 + 2) (r .next)
+
+  pub runs-length : length (withRun l i r) ≡ length l
+  unfolding withRun
+  runs-length = simp length-set
+
+  pub run-set : i * 4 + 3 < length l → runAt (withRun l i r) i ≡ r
+  unfolding runAt withRun
+  run-set h =
+      let p = i * 4 in
+      let a = length-set l p (r .inode) in
+      let b = length-set one (p + 1) (r .place) in
+      let c = length-set two (p + 2) (r .next) in
+      rw (
+        getD-set-other three (p + 3) p (r .left) 0 (λ e. omega arith),
+        getD-set-other two (p + 2) p (r .next) 0 (λ e. omega arith),
+        getD-set-other one (p + 1) p (r .place) 0 (λ e. omega arith),
+        getD-set-same l p (r .inode) 0 (omega arith),
+        getD-set-other three (p + 3) (p + 1) (r .left) 0 (λ e. omega arith),
+        getD-set-other two (p + 2) (p + 1) (r .next) 0 (λ e. omega arith),
+        getD-set-same one (p + 1) (r .place) 0 (omega arith),
+        getD-set-other three (p + 3) (p + 2) (r .left) 0 (λ e. omega arith),
+        getD-set-same two (p + 2) (r .next) 0 (omega arith),
+        getD-set-same three (p + 3) (r .left) 0 (omega arith),
+      )
+
+  module _ (j : ℕ) (n : j ≡ i → ⊥) where
+    -- number m of run j
+    number-kept : (m q : ℕ) → m < 4 → q ≡ j * 4 + m → getD (withRun l i r) q 0 ≡ getD l q 0
+    unfolding withRun
+    number-kept m q h e =
+        getD-set-other three (i * 4 + 3) q (r .left) 0 (λ z. n (omega arith))
+        ∙ getD-set-other two (i * 4 + 2) q (r .next) 0 (λ z. n (omega arith))
+        ∙ getD-set-other one (i * 4 + 1) q (r .place) 0 (λ z. n (omega arith))
+        ∙ getD-set-other l (i * 4) q (r .inode) 0 (λ z. n (omega arith))
+
+    pub run-kept : runAt (withRun l i r) j ≡ runAt l j
+    unfolding runAt
+    run-kept =
+        rw (
+          number-kept 0 (j * 4) (omega arith) (omega arith),
+          number-kept 1 (j * 4 + 1) (omega arith) refl,
+          number-kept 2 (j * 4 + 2) (omega arith) refl,
+          number-kept 3 (j * 4 + 3) (omega arith) refl,
+        )
+
+-- ---- runs
 
 pub ended-sound : {img : List ℕ} {h : Held} {r : Run} → Ended r → Sound img h r
 ended-sound e = record { reads = λ n. absurd (n (e .none-left)) }

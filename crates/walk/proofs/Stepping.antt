@@ -7,12 +7,12 @@ use mathlib.Core.List.{List, [], _∷_, _++_, append-nil}
 use Prim.Native.Nat.{ℕ, zero, suc, _+_, _≤_, _<_}
 use native.Mathlib.Omega.{arith}
 use native.Mathlib.Numerals.{add-one}
-use lib.ListN.{length, take, getD, set, replicate, length-replicate, length-set}
-use lib.Seq.{take-suc, take-suc-set}
+use lib.Dec.{eqb}
+use lib.ListN.{length}
+use borrow.Author.Tests.{eqb-true, eqb-false}
 use Rattle.wire.specs.declared.order.Ordering.{Ordering}
 use Rattle.wire.specs.declared.order.Ordering.the-variants.{Less, Equal, Greater}
 use Rattle.wire.specs.Orders.{byNumber, greater-N, says, Says, cmpN}
-use Rattle.wire.specs.Lists.{Every}
 use Rattle.wire.specs.Maps.{meet}
 use Rattle.image.specs.Meaning.{Node, Record}
 use Rattle.image.specs.NodeLayout.{node}
@@ -28,30 +28,13 @@ use Rattle.rules.proofs.PlacedStack.{records-snoc}
 use Rattle.stack.specs.Stacks.{AllRead, NodeRead}
 use Rattle.merge.specs.Pile.{firstKey, pickKey, lower, leastKey, headIf, passAll, answer}
 use Rattle.merge.proofs.Piles.{pile-step, pile-end, ascend-pass}
-use Rattle.walk.specs.Runs.{Piece, Row, rowsLeft, runRows, Ended, Sound, ListOf, Has, pieceAt, ReadAt, Found, Passed}
-use Rattle.walk.specs.Walks.{Pieces, orNothing, laying, topOf, runsOn, sourcesUnder, sourcesOf, stacksLeft, piecesIn, Whole, Ready, keyIf, keyOf, Lower, Least, Taken, stacksIf, Steps, OverBase}
+use Rattle.walk.specs.Runs.{runAt, withRun, Piece, Row, rowsLeft, runRows, Sound, Has, pieceAt, ReadAt, Found, Passed}
+use Rattle.walk.specs.Walks.{Pieces, orNothing, laying, topOf, walkOf, sourcesUnder, sourcesOf, stacksLeft, piecesIn, Whole, Ready, keyIf, keyOf, Lower, Least, Taken, stacksIf, Steps}
 use Rattle.walk.specs.declared.run.Run.{Run}
 use Rattle.walk.specs.declared.walk.Walk.{Walk}
 use Rattle.walk.specs.declared.walk.First.{First}
 use Rattle.walk.specs.declared.walk.Step.{Step}
-use Rattle.walk.proofs.Running.{ended-sound, has-head}
-
--- ---- each element of an array
-
-module _ {A : Type 0} (P : A → Type 0) where
-  pub every-replicate : (n : ℕ) (a : A) → P a → Every P (replicate n a)
-  every-replicate zero a h = tt
-  every-replicate (suc n) a h = (h, every-replicate n a h)
-
-  pub every-set : (l : List A) (i : ℕ) (a : A) → Every P l → P a → Every P (set l i a)
-  every-set [] i a h k = tt
-  every-set (x ∷ l) zero a h k = (k, h .1)
-  every-set (x ∷ l) (suc i) a h k = (h .0, every-set l i a (h .1) k)
-
-  pub every-get : (l : List A) (i : ℕ) (d : A) → i < length l → Every P l → P (getD l i d)
-  every-get [] i d e h = absurd (omega arith)
-  every-get (x ∷ l) zero d e h = h .0
-  every-get (x ∷ l) (suc i) d e h = every-get l i d (omega arith) (h .1)
+use Rattle.walk.proofs.Running.{runs-length, run-set, run-kept, has-head}
 
 -- ---- the lesser of two inodes
 
@@ -81,20 +64,18 @@ module _ {best : First} {r : Run} where
     pub lower-first : best .found ≡ false → Lower best r (record { found = true; inode = r .inode })
     lower-first e = record { is = rw (key-first r n, e) }
 
--- ---- one layer more
+-- ---- the rows of runs in an array
 
-runs-snoc : (img : List ℕ) (l : List Run) (x : Run) (ss : List (List Row)) → runsOn img (l ++ (x ∷ [])) ss ≡ runRows img H.Record x ∷ runsOn img l ss
-unfolding runsOn
-runs-snoc img [] x ss = refl
-runs-snoc img (r ∷ l) x ss = runs-snoc img l x (runRows img H.Record r ∷ ss)
+sources-kept : (img l out : List ℕ) (i : ℕ) → ((j : ℕ) → j ≤ i → runAt out j ≡ runAt l j) → sourcesUnder img out i ≡ sourcesUnder img l i
+unfolding sourcesUnder
+sources-kept img l out zero h = rw (h 0 (omega arith))
+sources-kept img l out (suc i) h = rw (h (suc i) (omega arith), sources-kept img l out i (λ j k. h j (omega arith)))
 
-sources-more : (img : List ℕ) (w : Walk) (i : ℕ) (d : Run) → i < length (w .layers)
-    → sourcesUnder img w (i + 1) ≡ runRows img H.Record (getD (w .layers) i d) ∷ sourcesUnder img w i
-sources-more img w i d h = rw (add-one, take-suc (w .layers) i d h) (runs-snoc img (take i (w .layers)) (getD (w .layers) i d) (runRows img H.Node (w .base) ∷ []))
-
-pub sources-set : (img : List ℕ) (w : Walk) (i : ℕ) (x : Run) → i < length (w .layers)
-    → runsOn img (take (i + 1) (set (w .layers) i x)) (runRows img H.Node (w .base) ∷ []) ≡ runRows img H.Record x ∷ sourcesUnder img w i
-sources-set img w i x h = rw (add-one, take-suc-set (w .layers) i x h) (runs-snoc img (take i (w .layers)) x (runRows img H.Node (w .base) ∷ []))
+-- one layer more
+pub sources-set : (img l : List ℕ) (i : ℕ) (x : Run) → i < 17 → length l ≡ 72 → sourcesUnder img (withRun l (suc i) x) (suc i) ≡ runRows img H.Record x ∷ sourcesUnder img l i
+unfolding sourcesUnder
+sources-set img l i x h k =
+    rw (run-set l (suc i) x (omega arith), sources-kept img l (withRun l (suc i) x) i (λ j m. run-kept l (suc i) x j (λ e. omega arith)))
 
 -- ---- the least inode
 
@@ -105,32 +86,48 @@ first-key img h r s = go (r .left) refl
     go zero e = refl
     go (suc m) e = rw (s .reads (λ z. absurd (omega arith)) .1)
 
-pub record Leasting (img : List ℕ) (w : Walk) (i : ℕ) (best : First) : Type 0 where
-  pub low : i ≤ w .count
-  pub is : leastKey byNumber (sourcesUnder img w i) ≡ keyIf (best .found) (best .inode)
+pub record Leasting (l : List ℕ) (n i : ℕ) (best : First) : Type 0 where
+  pub low : i ≤ n
+  pub is : (img : List ℕ) → Whole img (walkOf l n) → leastKey byNumber (sourcesUnder img l i) ≡ keyIf (best .found) (best .inode)
 
-module _ {img : List ℕ} {w : Walk} (h : Whole img w) where
-  pub leasting-start : {n : ℕ} {best : First} → Lower (record { found = false; inode = n }) (w .base) best → Leasting img w 0 best
-  unfolding leastKey runsOn
-  leasting-start l = record { low = omega arith; is = rw (first-key img H.Node (w .base) (h .base)) (sym (l .is)) }
+module _ {l : List ℕ} {n : ℕ} where
+  pub leasting-start : {m : ℕ} {r : Run} {best : First} → r ≡ runAt l 0 → Lower (record { found = false; inode = m }) r best → Leasting l n 0 best
+  unfolding leastKey sourcesUnder
+  leasting-start e o = record { low = omega arith; is = λ img h. rw (first-key img H.Node (runAt l 0) (h .base)) (sym (rw e at (o .is))) }
 
-  pub layer-sound : (i : ℕ) (d : Run) → i < w .count → Sound img H.Record (getD (w .layers) i d)
-  layer-sound i d l =
-      let wide = h .wide in
-      let few = h .few in
-      every-get (Sound img H.Record) (w .layers) i d (omega arith) (h .sound)
+  module _ {i : ℕ} {best : First} (g : Leasting l n i best) where
+    pub leasting-more : i < n → {r : Run} {out : First} → r ≡ runAt l (i + 1) → Lower best r out → Leasting l n (i + 1) out
+    unfolding leastKey sourcesUnder
+    leasting-more h e o = record {
+      low = omega arith;
+      is = λ img w. rw (add-one, first-key img H.Record (runAt l (suc i)) (w .sound i h), g .is img w) (sym (rw (e, add-one) at (o .is)));
+    }
 
-  module _ {i : ℕ} (l : i < w .count) (d : Run) where
-    long : i < length (w .layers)
-    long = omega (arith, h .wide, h .few)
+    pub leasting-all : n ≤ i → Least (walkOf l n) best
+    leasting-all k = let low = g .low in let z : i ≡ n = omega arith in record { is = λ img h. rw z at (g .is img h) }
 
-    pub leasting-more : {best out : First} → Leasting img w i best → Lower best (getD (w .layers) i d) out → Leasting img w (i + 1) out
-    unfolding leastKey
-    leasting-more g o =
-        record { low = omega arith; is = rw (sources-more img w i d long, first-key img H.Record (getD (w .layers) i d) (layer-sound i d l), g .is) (sym (o .is)) }
+-- ---- a walk with one run anew
 
-  pub leasting-all : {i : ℕ} {best : First} → Leasting img w i best → w .count ≤ i → Least img w best
-  leasting-all {i} g k = let low = g .low in let z : i ≡ w .count = omega arith in record { is = rw z at (g .is) }
+base-set : {img : List ℕ} {w : Walk} {x : Run} → Whole img w → Sound img H.Node x → Whole img (walkOf (withRun (w .runs) 0 x) (w .count))
+base-set {img} {w} {x} h s = let wide = h .wide in record {
+  wide = runs-length (w .runs) 0 x ∙ wide;
+  few = h .few;
+  base = rw (run-set (w .runs) 0 x (omega arith)) s;
+  sound = λ i l. rw (run-kept (w .runs) 0 x (suc i) (λ e. omega arith)) (h .sound i l);
+}
+
+pub layer-set : {img : List ℕ} {w : Walk} {i : ℕ} {x : Run} → Whole img w → i < 17 → Sound img H.Record x → (n : ℕ) → n ≤ 17
+    → ((j : ℕ) → j < n → (j ≡ i → ⊥) → j < w .count) → Whole img (walkOf (withRun (w .runs) (suc i) x) n)
+layer-set {img} {w} {i} {x} h k s n few low = let wide = h .wide in record {
+  wide = runs-length (w .runs) (suc i) x ∙ wide;
+  few = few;
+  base = rw (run-kept (w .runs) (suc i) x 0 (λ e. omega arith)) (h .base);
+  sound = λ j l. go j l (eqb j i) refl;
+}
+  where
+    go : (j : ℕ) → j < n → (b : Bool) → eqb j i ≡ b → Sound img H.Record (runAt (withRun (w .runs) (suc i) x) (suc j))
+    go j l true e = let wide = h .wide in rw (eqb-true j i e, run-set (w .runs) (suc i) x (omega arith)) s
+    go j l false e = let d = eqb-false j i e in rw (run-kept (w .runs) (suc i) x (suc j) (λ z. d (omega arith))) (h .sound j (low j l d))
 
 -- ---- the stack of an inode
 
@@ -156,75 +153,96 @@ read-more img [] (some p) h r = (r, tt)
 read-more img (q ∷ ps) none h r = (h .0, read-more img ps none (h .1) r)
 read-more img (q ∷ ps) (some p) h r = (h .0, read-more img ps (some p) (h .1) r)
 
-pub record Taking (img : List ℕ) (w : Walk) (k : ℕ) (out : Walk) (stack : InodeLayerStack) (b : Bool) (i : ℕ) : Type 0 where
-  pub low : i ≤ w .count
-  pub count : out .count ≡ w .count
-  pub whole : Whole img out
-  pub rest : sourcesUnder img out i ≡ passAll byNumber k (sourcesUnder img w i)
-  pub node : NodeRead img (placeOf (stack .base))
-  pub records : AllRead img (deltasOf stack)
+-- the base and the lowest i of the layers in an array are past the inode k, and the others are not moved
+pub record Taking (img l : List ℕ) (k : ℕ) (out : List ℕ) (stack : InodeLayerStack) (b : Bool) (i : ℕ) : Type 0 where
+  ahead : (j : ℕ) → i < j → runAt out j ≡ runAt l j
+  rest : sourcesUnder img out i ≡ passAll byNumber k (sourcesUnder img l i)
+  node : NodeRead img (placeOf (stack .base))
+  records : AllRead img (deltasOf stack)
+  pieces : piecesIn img stack ≡ orNothing (answer byNumber laying k (sourcesUnder img l i))
+  top : b ≡ isThere (headIf byNumber k (topOf (sourcesUnder img l i)))
+
+-- the loop, from what is in hand where it starts
+pub record Layering (img : List ℕ) (n k : ℕ) (l₀ : List ℕ) (stack₀ : InodeLayerStack) (b₀ : Bool) (l : List ℕ) (stack : InodeLayerStack) (b : Bool) (i : ℕ) : Type 0 where
+  pub low : i ≤ n
+  pub whole : Whole img (walkOf l n)
   pub few : stack .count ≤ i
   pub wide : length (stack .deltas) ≡ 17
-  pub pieces : piecesIn img stack ≡ orNothing (answer byNumber laying k (sourcesUnder img w i))
-  pub top : b ≡ isThere (headIf byNumber k (topOf (sourcesUnder img w i)))
+  pub taken : (from : List ℕ) → Taking img from k l₀ stack₀ b₀ 0 → Taking img from k l stack b i
 
-module _ {img : List ℕ} {w : Walk} {k : ℕ} where
-  module _ (h : Whole img w) where
-    pub taking-start : {out : Run} {place : Place} {top : Bool} {deltas : List ℕ} → Passed img H.Node (w .base) k out → Found img H.Node (w .base) k place → Has (w .base) k top
-        → length deltas ≡ 17
-        → Taking img w k (record { base = out; layers = w .layers; count = w .count }) (record { base = place; deltas = deltas; count = 0 }) top 0
-    unfolding runsOn passAll answer recordsOn
-    taking-start {out} {place} p f a l = record {
-      low = omega arith;
-      count = refl;
-      whole = record { wide = h .wide; few = h .few; base = p .sound; sound = h .sound };
-      rest = rw (p .is);
-      node = read-node img (placeOf place) (f .reads);
-      records = tt;
-      few = omega arith;
-      wide = l;
-      pieces = rw (f .is) (node-pieces img k (placeOf place) (f .reads));
-      top = has-head (h .base) a;
-    }
+module _ {img : List ℕ} {w : Walk} (h : Whole img w) {base : Run} (z : base ≡ runAt (w .runs) 0) where
+  pub base-sound : Sound img H.Node base
+  base-sound = rw z (h .base)
 
-    module _ {rest : Walk} {stack : InodeLayerStack} {top : Bool} {i : ℕ} (g : Taking img w k rest stack top i) where
-      pub taking-more : i < w .count → (d : Run) {out : Run} {place : Place} {next : InodeLayerStack} {b : Bool} → Passed img H.Record (getD (w .layers) i d) k out
-          → Found img H.Record (getD (w .layers) i d) k place → Pushed stack (placeOf place) next → Has (getD (w .layers) i d) k b
-          → Taking img w k (record { base = rest .base; layers = set (rest .layers) i out; count = rest .count }) next b (i + 1)
-      unfolding passAll answer
-      taking-more l d {out} {place} {next} p f u a =
-          let same = g .count in
-          let wide = g .whole .wide in
-          let few = g .whole .few in
-          let s = layer-sound h i d l in
-          record {
-            low = omega arith;
-            count = same;
-            whole = record { wide = rw length-set wide; few = few; base = g .whole .base; sound = every-set (Sound img H.Record) (rest .layers) i out (g .whole .sound) (p .sound) };
-            rest = rw (sources-set img rest i out (omega arith), sources-more img w i d (long h l d), p .is, g .rest);
-            node = rw (u .base) (g .node);
-            records = rw (u .places) (read-more img (deltasOf stack) (placeOf place) (g .records) (f .reads));
-            few = omega (arith, u .few, g .few);
-            wide = u .wide;
-            pieces =
-                rw (u .places, u .base, sources-more img w i d (long h l d), f .is)
-                (record-pieces img k (deltasOf stack) (placeOf place) (unplacedNode (nodeAt img (placeOf (stack .base)))) (answer byNumber laying k (sourcesUnder img w i)) (f .reads) (g .pieces));
-            top = rw (sources-more img w i d (long h l d)) (has-head s a);
-          }
+  module _ {k : ℕ} {out : Run} (p : Passed img H.Node base k out) {l : List ℕ} (e : l ≡ withRun (w .runs) 0 out) where
+    pub layering-start : {stack : InodeLayerStack} {b : Bool} → stack .count ≡ 0 → length (stack .deltas) ≡ 17 → Layering img (w .count) k l stack b l stack b 0
+    layering-start c d = record { low = omega arith; whole = rw e (base-set h (p .sound)); few = omega arith; wide = d; taken = λ from t. t }
 
-      pub taking-all : w .count ≤ i → Taken img w k (record { more = true; inode = k; top = top; stack = stack; rest = rest })
-      taking-all m =
+    module _ {place : Place} {b₀ : Bool} (f : Found img H.Node base k place) (a : Has base k b₀) {deltas : List ℕ} where
+      taking-start : Taking img (w .runs) k l (record { base = place; deltas = deltas; count = 0 }) b₀ 0
+      unfolding sourcesUnder passAll answer recordsOn
+      taking-start =
+          let wide = h .wide in
+          rw e
+          (record {
+            ahead = λ j m. run-kept (w .runs) 0 out j (λ e. omega arith);
+            rest = rw (run-set (w .runs) 0 out (omega arith), p .is, z);
+            node = read-node img (placeOf place) (f .reads);
+            records = tt;
+            pieces = rw (← z, f .is) (node-pieces img k (placeOf place) (f .reads));
+            top = rw (← z) (has-head base-sound a);
+          })
+
+      pub layering-all : {stack : InodeLayerStack} {b : Bool} {out : List ℕ} {i : ℕ} → Layering img (w .count) k l (record { base = place; deltas = deltas; count = 0 }) b₀ out stack b i
+          → w .count ≤ i → Taken img w k (record { more = true; inode = k; top = b; stack = stack }) (walkOf out (w .count))
+      layering-all {i = i} g m =
           let low = g .low in
           let few = h .few in
-          let z : i ≡ w .count = omega arith in
+          let y : i ≡ w .count = omega arith in
+          let t = g .taken (w .runs) taking-start in
           record {
             inode = refl;
-            rest = rw (g .count) (rw z at (g .rest));
+            rest = rw y at (t .rest);
             whole = g .whole;
-            stacked = record { node = g .node; records = g .records; few = omega (arith, g .few); wide = g .wide };
-            pieces = rw z at (g .pieces);
-            top = rw z at (g .top);
+            stacked = record { node = t .node; records = t .records; few = omega (arith, g .few); wide = g .wide };
+            pieces = rw y at (t .pieces);
+            top = rw y at (t .top);
           }
+
+module _ {img : List ℕ} {n k : ℕ} {l₀ : List ℕ} {stack₀ : InodeLayerStack} {b₀ : Bool} {l : List ℕ} {stack : InodeLayerStack} {b : Bool} {i : ℕ}
+    (g : Layering img n k l₀ stack₀ b₀ l stack b i) (h : i < n) {run : Run} (z : run ≡ runAt l (i + 1)) where
+  pub layer-sound : Sound img H.Record run
+  layer-sound = rw (z, add-one) (g .whole .sound i h)
+
+  module _ {out : Run} {place : Place} {next : InodeLayerStack} {top : Bool} (p : Passed img H.Record run k out) (f : Found img H.Record run k place)
+      (u : Pushed stack (placeOf place) next) (a : Has run k top) where
+    taking-more : (from : List ℕ) → Taking img from k l stack b i → Taking img from k (withRun l (suc i) out) next top (suc i)
+    unfolding sourcesUnder passAll answer
+    taking-more from t =
+        let few = g .whole .few in
+        let here : runAt from (suc i) ≡ run = sym (z ∙ rw (add-one, t .ahead (suc i) (omega arith))) in
+        record {
+          ahead = λ j m. run-kept l (suc i) out j (λ e. omega arith) ∙ t .ahead j (omega arith);
+          rest = sources-set img l i out (omega arith) (g .whole .wide) ∙ rw (here, p .is, t .rest);
+          node = rw (u .base) (t .node);
+          records = rw (u .places) (read-more img (deltasOf stack) (placeOf place) (t .records) (f .reads));
+          pieces =
+              rw (here, u .places, u .base, f .is)
+              (record-pieces img k (deltasOf stack) (placeOf place) (unplacedNode (nodeAt img (placeOf (stack .base)))) (answer byNumber laying k (sourcesUnder img from i)) (f .reads) (t .pieces));
+          top = rw here (has-head layer-sound a);
+        }
+
+    pub layering-more : {m : List ℕ} → m ≡ withRun l (i + 1) out → Layering img n k l₀ stack₀ b₀ m next top (i + 1)
+    layering-more e =
+        let few = g .whole .few in
+        rw (e, add-one)
+        (record {
+          low = omega arith;
+          whole = layer-set (g .whole) (omega arith) (p .sound) n few (λ j m d. m);
+          few = omega (arith, u .few, g .few);
+          wide = u .wide;
+          taken = λ from t. taking-more from (g .taken from t);
+        })
 
 -- ---- the step
 
@@ -255,26 +273,20 @@ answered ((u ∷ s) ∷ ss) k h = go (leastKey byNumber ss) refl h (answered ss)
         choice Equal h = here h
         choice Greater h = let z : b ≡ k = cc in below (headIf byNumber k (u ∷ s)) (ih k (e ∙ ap some z))
 
-pub stepped : {img : List ℕ} {w : Walk} → Ready img w → {best : First} → Least img w best → {r : Step} → Taken img w (best .inode) r
-    → Steps img w (record { more = best .found; inode = r .inode; top = r .top; stack = r .stack; rest = r .rest })
-stepped {img} {w} g {best} l {r} t = record {
-  stacks = go (best .found) (l .is);
+pub stepped : {img : List ℕ} {w : Walk} → Ready img w → {best : First} → Least w best → {r : Step} {rest : Walk} → Taken img w (best .inode) r rest
+    → Steps img w (record { more = best .found; inode = r .inode; top = r .top; stack = r .stack }) rest
+stepped {img} {w} g {best} l {r} {rest} t = record {
+  stacks = go (best .found) least;
   taken = record { inode = refl; rest = rw (t .inode) (t .rest); whole = t .whole; stacked = t .stacked; pieces = rw (t .inode) (t .pieces); top = rw (t .inode) (t .top) };
   ready = record { whole = t .whole; ascend = rw (t .rest) (ascend-pass byNumber (best .inode) (sourcesOf img w) (g .ascend)) };
-  ended = λ e. l .is ∙ rw e;
+  ended = λ e. least ∙ rw e;
 }
   where
-    go : (b : Bool) → leastKey byNumber (sourcesOf img w) ≡ keyIf b (best .inode) → stacksLeft img w ≡ stacksIf b (r .inode, piecesIn img (r .stack)) (stacksLeft img (r .rest))
+    least : leastKey byNumber (sourcesOf img w) ≡ keyIf (best .found) (best .inode)
+    least = l .is img (g .whole)
+
+    go : (b : Bool) → leastKey byNumber (sourcesOf img w) ≡ keyIf b (best .inode) → stacksLeft img w ≡ stacksIf b (r .inode, piecesIn img (r .stack)) (stacksLeft img rest)
     go true e =
         pile-step byNumber laying (sourcesOf img w) (g .ascend) (best .inode) e
         ∙ rw (answered (sourcesOf img w) (best .inode) e, t .rest, t .inode, t .pieces)
     go false e = pile-end byNumber laying (sourcesOf img w) e
-
--- ---- the start
-
-pub over-base : {img : List ℕ} {base none : Run} → ListOf img H.Node 0 base → Ended none → OverBase img (record { base = base; layers = replicate 17 none; count = 0 })
-over-base {img} {base} {none} l e = record {
-  whole = record { wide = length-replicate 17 none; few = omega arith; base = l .sound; sound = every-replicate (Sound img H.Record) 17 none (ended-sound e) };
-  none-yet = refl;
-  are = l .are;
-}

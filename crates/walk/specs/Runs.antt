@@ -3,8 +3,8 @@ use mathlib.Core.Path.{_≡_}
 use mathlib.Core.Option.{Option, none, some}
 use mathlib.Core.Bool.{Bool, true, false}
 use mathlib.Core.List.{List, [], _∷_}
-use Prim.Native.Nat.{ℕ, zero, suc}
-use lib.ListN.{drop}
+use Prim.Native.Nat.{ℕ, zero, suc, _+_, _*_}
+use lib.ListN.{drop, getD, set}
 use Rattle.wire.specs.Parse.{Parsed, fault, got}
 use Rattle.wire.specs.Combinators.{_then_}
 use Rattle.wire.specs.Number.{number-read}
@@ -19,6 +19,16 @@ use Rattle.passes.specs.declared.inode.Held.the-variants as H
 use Rattle.passes.specs.declared.inode.Place.{Place}
 use Rattle.merge.specs.Pile.{headIf, pass}
 use Rattle.walk.specs.declared.run.Run.{Run}
+
+-- ---- runs in an array, four numbers each
+
+unfoldable pub runAt : List ℕ → ℕ → Run
+runAt l i = record { inode = getD l (i * 4) 0; place = getD l (i * 4 + 1) 0; next = getD l (i * 4 + 2) 0; left = getD l (i * 4 + 3) 0 }
+
+unfoldable pub withRun : List ℕ → ℕ → Run → List ℕ
+withRun l i r = set (set (set (set l (i * 4) (r .inode)) (i * 4 + 1) (r .place)) (i * 4 + 2) (r .next)) (i * 4 + 3) (r .left)
+
+-- ---- rows
 
 -- what stands under an inode: a node of the base, or a record of a layer
 pub data Piece : Type 0 where

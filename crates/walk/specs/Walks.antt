@@ -4,10 +4,9 @@ use mathlib.Core.Path.{_≡_}
 use mathlib.Core.Option.{Option, none, some}
 use mathlib.Core.Bool.{Bool, true, false}
 use mathlib.Core.List.{List, [], _∷_}
-use Prim.Native.Nat.{ℕ, zero, suc, _+_, _≤_}
-use lib.ListN.{length, take, set}
+use Prim.Native.Nat.{ℕ, zero, suc, _≤_, _<_}
+use lib.ListN.{length}
 use Rattle.wire.specs.Orders.{byNumber}
-use Rattle.wire.specs.Lists.{Every}
 use Rattle.image.specs.Meaning.{Node, Record}
 use Rattle.passes.specs.declared.inode.Held.the-variants as H
 use Rattle.survey.specs.declared.batch.InodeLayerStack.{InodeLayerStack}
@@ -15,7 +14,7 @@ use Rattle.rules.specs.Reads.{isThere}
 use Rattle.rules.specs.PlacedStacks.{unplaced, unplacedNode}
 use Rattle.stack.specs.Stacks.{Stacked, recordsIn, nodeIn}
 use Rattle.merge.specs.Pile.{lower, leastKey, headIf, passAll, Ascend, pile, answer}
-use Rattle.walk.specs.Runs.{Piece, ofNode, ofRecord, Row, runRows, listRows, Sound}
+use Rattle.walk.specs.Runs.{Piece, ofNode, ofRecord, Row, runAt, runRows, Sound}
 use Rattle.walk.specs.declared.run.Run.{Run}
 use Rattle.walk.specs.declared.walk.Walk.{Walk}
 use Rattle.walk.specs.declared.walk.First.{First}
@@ -49,17 +48,16 @@ topOf (s ∷ ss) = s
 
 -- ---- walks
 
--- the rows of layers, the lowest first, over what is beneath them
-unfoldable pub runsOn : List ℕ → List Run → List (List Row) → List (List Row)
-runsOn img [] ss = ss
-runsOn img (r ∷ rs) ss = runsOn img rs (runRows img H.Record r ∷ ss)
+abbrev pub walkOf : List ℕ → ℕ → Walk
+walkOf l n = record { runs = l; count = n }
 
--- the rows of the base and the lowest i layers, and of all
-abbrev pub sourcesUnder : List ℕ → Walk → ℕ → List (List Row)
-sourcesUnder img w i = runsOn img (take i (w .layers)) (runRows img H.Node (w .base) ∷ [])
+-- the rows of the base, which is run 0, and of the lowest i layers over it, the topmost first
+unfoldable pub sourcesUnder : List ℕ → List ℕ → ℕ → List (List Row)
+sourcesUnder img l zero = runRows img H.Node (runAt l 0) ∷ []
+sourcesUnder img l (suc i) = runRows img H.Record (runAt l (suc i)) ∷ sourcesUnder img l i
 
 abbrev pub sourcesOf : List ℕ → Walk → List (List Row)
-sourcesOf img w = sourcesUnder img w (w .count)
+sourcesOf img w = sourcesUnder img (w .runs) (w .count)
 
 -- the stacks that a walk has left
 abbrev pub stacksLeft : List ℕ → Walk → List (ℕ × Pieces)
@@ -70,10 +68,10 @@ abbrev pub piecesIn : List ℕ → InodeLayerStack → Pieces
 piecesIn img s = (unplaced (recordsIn img s), unplacedNode (nodeIn img s))
 
 pub record Whole (img : List ℕ) (w : Walk) : Type 0 where
-  pub wide : length (w .layers) ≡ 17
+  pub wide : length (w .runs) ≡ 72
   pub few : w .count ≤ 17
-  pub base : Sound img H.Node (w .base)
-  pub sound : Every (Sound img H.Record) (w .layers)
+  pub base : Sound img H.Node (runAt (w .runs) 0)
+  pub sound : (i : ℕ) → i < w .count → Sound img H.Record (runAt (w .runs) (suc i))
 
 -- each run rises
 pub record Ready (img : List ℕ) (w : Walk) : Type 0 where
@@ -93,14 +91,14 @@ keyOf r (suc n) = some (r .inode)
 pub record Lower (best : First) (r : Run) (out : First) : Type 0 where
   pub is : keyIf (out .found) (out .inode) ≡ lower byNumber (keyOf r (r .left)) (keyIf (best .found) (best .inode))
 
-pub record Least (img : List ℕ) (w : Walk) (r : First) : Type 0 where
-  pub is : leastKey byNumber (sourcesOf img w) ≡ keyIf (r .found) (r .inode)
+pub record Least (w : Walk) (r : First) : Type 0 where
+  pub is : (img : List ℕ) → Whole img w → leastKey byNumber (sourcesOf img w) ≡ keyIf (r .found) (r .inode)
 
 -- the places of what stands under the inode k, and the walk past it
-pub record Taken (img : List ℕ) (w : Walk) (k : ℕ) (r : Step) : Type 0 where
+pub record Taken (img : List ℕ) (w : Walk) (k : ℕ) (r : Step) (out : Walk) : Type 0 where
   pub inode : r .inode ≡ k
-  pub rest : sourcesOf img (r .rest) ≡ passAll byNumber k (sourcesOf img w)
-  pub whole : Whole img (r .rest)
+  pub rest : sourcesOf img out ≡ passAll byNumber k (sourcesOf img w)
+  pub whole : Whole img out
   pub stacked : Stacked img (r .stack)
   pub pieces : piecesIn img (r .stack) ≡ orNothing (answer byNumber laying k (sourcesOf img w))
   pub top : r .top ≡ isThere (headIf byNumber k (topOf (sourcesOf img w)))
@@ -110,19 +108,8 @@ stacksIf true e l = e ∷ l
 stacksIf false e l = []
 
 -- the least inode goes first, with its stack, and then the rest
-pub record Steps (img : List ℕ) (w : Walk) (r : Step) : Type 0 where
-  pub stacks : stacksLeft img w ≡ stacksIf (r .more) (r .inode, piecesIn img (r .stack)) (stacksLeft img (r .rest))
-  pub taken : Taken img w (r .inode) r
-  pub ready : Ready img (r .rest)
+pub record Steps (img : List ℕ) (w : Walk) (r : Step) (rest : Walk) : Type 0 where
+  pub stacks : stacksLeft img w ≡ stacksIf (r .more) (r .inode, piecesIn img (r .stack)) (stacksLeft img rest)
+  pub taken : Taken img w (r .inode) r rest
+  pub ready : Ready img rest
   pub ended : r .more ≡ false → leastKey byNumber (sourcesOf img w) ≡ none
-
--- ---- the start
-
--- the base is at the start of the image
-pub record OverBase (img : List ℕ) (w : Walk) : Type 0 where
-  pub whole : Whole img w
-  pub none-yet : w .count ≡ 0
-  pub are : runRows img H.Node (w .base) ≡ listRows H.Node img
-
-abbrev pub withRun : Walk → Run → Walk
-withRun w r = record { base = w .base; layers = set (w .layers) (w .count) r; count = w .count + 1 }

@@ -2,9 +2,8 @@
 ghost use Prim.Native.Nat.{_≤_};
 ghost use Rattle.walk.specs.Opens.{Starts, Ends, OpensLayers};
 use crate::run::run_at;
+use crate::run::set_run;
 use crate::walk::Walk;
-use crate::walk::push_run;
-use crate::walk::walk_base;
 use change::section::Sections;
 use passes::inode::Held;
 use passes::inode::find_inode;
@@ -51,14 +50,18 @@ pub fn open_layers(img: &[u8], sections: Sections, n: u64) -> Layers
     let first = count.next;
     let mut end = place_at(first);
     let mut top = end;
-    let mut walk = walk_base(img);
+    let mut runs = [0u64; 72];
+    set_run(&mut runs, 0, run_at(img, 0, Held::Node));
     let mut i: u64 = 0;
     while i < n {
         top = records_of(img, end, i < batches);
-        let run = run_at(img, top, Held::Record);
-        walk = push_run(walk, run);
-        end = records_end(img, top);
         i += 1;
+        set_run(&mut runs, i as usize, run_at(img, top, Held::Record));
+        end = records_end(img, top);
     }
+    let walk = Walk {
+        runs,
+        count: n as usize,
+    };
     Layers { walk, top, end }
 }

@@ -1,7 +1,9 @@
 // Runs: lists by inode in the image, each at a row of it.
+ghost use Prim.Native.Nat.{_<_};
+ghost use mathlib.Core.Path.{_≡_};
 ghost use Rattle.passes.specs.Held.{held};
 ghost use Rattle.image.specs.Places.{Ends};
-ghost use Rattle.walk.specs.Runs.{Ended, Sound, RowsOf, ListOf, Has, Found, Passed};
+ghost use Rattle.walk.specs.Runs.{runAt, withRun, Ended, Sound, RowsOf, ListOf, Has, Found, Passed};
 use passes::inode::Held;
 use passes::inode::Place;
 use passes::node::pass_node;
@@ -17,6 +19,32 @@ pub struct Run {
     pub place: usize,
     pub next: usize,
     pub left: u64,
+}
+
+// Run `i` of an array, in which each run is four numbers.
+pub fn run_of(runs: &[u64; 72], i: usize) -> Run
+    requires { ⌜ i < 18 ⌝ }
+    ensures { λ r. ⌜ r ≡ runAt (now (runs .entry)) i ⌝ }
+{
+    let at = i * 4;
+    Run {
+        inode: runs[at],
+        place: runs[at + 1] as usize,
+        next: runs[at + 2] as usize,
+        left: runs[at + 3],
+    }
+}
+
+// Stores run `i` of an array.
+pub fn set_run(runs: &mut [u64; 72], i: usize, run: Run)
+    requires { ⌜ i < 18 ⌝ }
+    ensures { λ r. ⌜ now (runs .exit) ≡ withRun (now (runs .entry)) i run ⌝ }
+{
+    let at = i * 4;
+    runs[at] = run.inode;
+    runs[at + 1] = run.place as u64;
+    runs[at + 2] = run.next as u64;
+    runs[at + 3] = run.left;
 }
 
 // A run with no rows left.

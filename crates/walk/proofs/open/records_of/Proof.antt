@@ -7,19 +7,15 @@ use Rattle.walk.proofs.open.records_of.Lts as lts
 use Rattle.writers.proofs.batch.read_batch_head.Reads as read-batch-head-reads
 use Rattle.wire.proofs.cursor.place_at.Reads as place-at-reads
 
--- src/open.rt:29:13
 read-batch-head-requires : tie.Need-read-batch-head-requires
 read-batch-head-requires c κs = search needs
 
--- src/open.rt:31:9
 place-at-requires : tie.Need-place-at-requires
 place-at-requires c κs = search needs
 
--- src/open.rt:31:9
 returns : tie.Need-returns
 returns c = search starts-head
 
--- src/open.rt:25:1
 returns-2 : tie.Need-returns-2
 returns-2 c = search starts-plain
 

@@ -4,11 +4,9 @@ use Rattle.walk.proofs.run.has_inode.Tie as tie
 use Rattle.walk.proofs.run.has_inode.Reads as reads
 use Rattle.walk.proofs.run.has_inode.Lts as lts
 
--- src/run.rt:83:9
 returns : tie.Need-returns
 returns c = search has-none
 
--- src/run.rt:79:1
 returns-2 : tie.Need-returns-2
 returns-2 c = search has-first
 

@@ -6,27 +6,21 @@ use Rattle.walk.proofs.run.pass_under_inode.Lts as lts
 use Rattle.passes.proofs.node.pass_node.Reads as pass-node-reads
 use Rattle.passes.proofs.record.pass_record.Reads as pass-record-reads
 
--- src/run.rt:40:23
 enum-told : tie.Need-enum-told
 enum-told c = search needs
 
--- src/run.rt:40:23
 pass-node-requires : tie.Need-pass-node-requires
 pass-node-requires c κs = search needs
 
--- src/run.rt:41:25
 enum-told-2 : tie.Need-enum-told-2
 enum-told-2 c = search needs
 
--- src/run.rt:41:25
 pass-record-requires : tie.Need-pass-record-requires
 pass-record-requires c κs = search needs
 
--- src/run.rt:36:1
 returns : tie.Need-returns
 returns c = rw (c .before .enum-told .given .1) (c .pass-node .ensures)
 
--- src/run.rt:36:1
 returns-2 : tie.Need-returns-2
 returns-2 c = rw (c .before .enum-told2 .given .1) (c .pass-record .ensures)
 

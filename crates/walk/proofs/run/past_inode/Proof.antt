@@ -7,23 +7,18 @@ use Rattle.walk.proofs.run.past_inode.Lts as lts
 use Rattle.walk.proofs.run.has_inode.Reads as has-inode-reads
 use Rattle.walk.proofs.run.run_from.Reads as run-from-reads
 
--- src/run.rt:104:8
 has-inode-requires : tie.Need-has-inode-requires
 has-inode-requires c κs = search needs
 
--- src/run.rt:105:40
 sub-run-from : tie.Need-sub-run-from
 sub-run-from c = search has-left
 
--- src/run.rt:105:9
 run-from-requires : tie.Need-run-from-requires
 run-from-requires c κs = search needs
 
--- src/run.rt:105:9
 returns : tie.Need-returns
 returns c = search past-here
 
--- src/run.rt:100:1
 returns-2 : tie.Need-returns-2
 returns-2 c = search past-other
 

@@ -6,15 +6,12 @@ use Rattle.walk.proofs.run.place_under.Reads as reads
 use Rattle.walk.proofs.run.place_under.Lts as lts
 use Rattle.walk.proofs.run.has_inode.Reads as has-inode-reads
 
--- src/run.rt:93:8
 has-inode-requires : tie.Need-has-inode-requires
 has-inode-requires c κs = search needs
 
--- src/run.rt:94:9
 returns : tie.Need-returns
 returns c = search place-here
 
--- src/run.rt:89:1
 returns-2 : tie.Need-returns-2
 returns-2 c = search place-other
 

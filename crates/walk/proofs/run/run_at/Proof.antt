@@ -8,31 +8,24 @@ use Rattle.walk.proofs.run.no_run.Reads as no-run-reads
 use Rattle.walk.proofs.run.run_from.Reads as run-from-reads
 use Rattle.wire.proofs.number.read_number.Reads as read-number-reads
 
--- src/run.rt:70:9
 read-number-requires : tie.Need-read-number-requires
 read-number-requires c κs = search needs
 
--- src/run.rt:73:20
 enum-known-next : tie.Need-enum-known-next
 enum-known-next c = search needs
 
--- src/run.rt:73:30
 run-from-requires : tie.Need-run-from-requires
 run-from-requires c κs = search needs
 
--- src/run.rt:74:28
 enum-told : tie.Need-enum-told
 enum-told c = search needs
 
--- src/run.rt:74:28
 no-run-requires : tie.Need-no-run-requires
 no-run-requires c κs = search needs
 
--- src/run.rt:67:1
 returns : tie.Need-returns
 returns c = search list-rows
 
--- src/run.rt:67:1
 returns-2 : tie.Need-returns-2
 returns-2 c = search list-stop
 

@@ -9,43 +9,33 @@ use Rattle.walk.proofs.run.pass_under_inode.Reads as pass-under-inode-r
 use Rattle.wire.proofs.cursor.place_at.Reads as place-at-reads
 use Rattle.wire.proofs.number.read_number.Reads as read-number-reads
 
--- src/run.rt:50:9
 no-run-requires : tie.Need-no-run-requires
 no-run-requires c κs = search needs
 
--- src/run.rt:50:9
 returns : tie.Need-returns
 returns c = search from-none
 
--- src/run.rt:52:9
 read-number-requires : tie.Need-read-number-requires
 read-number-requires c κs = search needs
 
--- src/run.rt:54:9
 pass-under-inode-requires : tie.Need-pass-under-inode-requires
 pass-under-inode-requires c κs = search needs
 
--- src/run.rt:56:20
 enum-known-end : tie.Need-enum-known-end
 enum-known-end c = search needs
 
--- src/run.rt:58:20
 place-at-requires : tie.Need-place-at-requires
 place-at-requires c κs = search needs
 
--- src/run.rt:62:28
 enum-told : tie.Need-enum-told
 enum-told c = search needs
 
--- src/run.rt:62:28
 no-run-requires-2 : tie.Need-no-run-requires-2
 no-run-requires-2 c κs = search needs
 
--- src/run.rt:46:1
 returns-2 : tie.Need-returns-2
 returns-2 c = search from-row
 
--- src/run.rt:46:1
 returns-3 : tie.Need-returns-3
 returns-3 c = search from-stop
 

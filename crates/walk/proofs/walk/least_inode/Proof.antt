@@ -6,47 +6,39 @@ use Rattle.walk.proofs.walk.least_inode.Statement.{statement}
 use Rattle.walk.proofs.walk.least_inode.Tie as tie
 use Rattle.walk.proofs.walk.least_inode.Reads as reads
 use Rattle.walk.proofs.walk.least_inode.Lts as lts
+use Rattle.walk.proofs.run.run_of.Reads as run-of-reads
 use Rattle.walk.proofs.walk.lower.Reads as lower-reads
 
 abbrev Inv-loop : tie.InvT-loop
-Inv-loop img walk best₀ i₀ best i = Leasting img walk i best
+Inv-loop runs count best₀ i₀ best i = Leasting runs count i best
 
 abbrev μ-loop : tie.MeasureT-loop
-μ-loop img walk best₀ i₀ best i = walk .count - i
+μ-loop runs count best₀ i₀ best i = count - i
 
--- src/walk.rt:94:9
+run-of-requires : tie.Need-run-of-requires Inv-loop μ-loop
+run-of-requires c κs = search needs
+
 lower-requires : tie.Need-lower-requires Inv-loop μ-loop
 lower-requires c κs = search needs
 
--- src/walk.rt:96:5
 loop-holds : tie.Need-loop-holds Inv-loop μ-loop
 loop-holds c = search leasting-start
 
--- src/walk.rt:97:19
-mul-run : tie.Need-mul-run Inv-loop μ-loop
-mul-run c = search needs
-
--- src/walk.rt:97:19
-element-copy-out-run : tie.Need-element-copy-out-run Inv-loop μ-loop
-element-copy-out-run c = search needs
-
--- src/walk.rt:98:9
-lower-requires-2 : tie.Need-lower-requires-2 Inv-loop μ-loop
-lower-requires-2 c κs = search needs
-
--- src/walk.rt:99:9
 add-i : tie.Need-add-i Inv-loop μ-loop
 add-i c = search needs
 
--- src/walk.rt:96:5
+run-of-requires-2 : tie.Need-run-of-requires-2 Inv-loop μ-loop
+run-of-requires-2 c κs = search needs
+
+lower-requires-2 : tie.Need-lower-requires-2 Inv-loop μ-loop
+lower-requires-2 c κs = search needs
+
 loop-less : tie.Need-loop-less Inv-loop μ-loop
 loop-less c = search needs
 
--- src/walk.rt:96:5
 loop-again : tie.Need-loop-again Inv-loop μ-loop
 loop-again c = search (leasting-more, arith)
 
--- src/walk.rt:85:1
 returns : tie.Need-returns Inv-loop μ-loop
 returns c = search (leasting-all, arith)
 
@@ -56,12 +48,12 @@ least-inode-spec =
     (tie.spec
     Inv-loop
     μ-loop
+    run-of-requires
     lower-requires
     loop-holds
-    mul-run
-    element-copy-out-run
-    lower-requires-2
     add-i
+    run-of-requires-2
+    lower-requires-2
     loop-less
     loop-again
     returns)

@@ -5,19 +5,15 @@ use Rattle.walk.proofs.walk.lower.Tie as tie
 use Rattle.walk.proofs.walk.lower.Reads as reads
 use Rattle.walk.proofs.walk.lower.Lts as lts
 
--- src/walk.rt:71:9
 returns : tie.Need-returns
 returns c = search lower-none
 
--- src/walk.rt:75:13
 returns-2 : tie.Need-returns-2
 returns-2 c = search (lower-kept, arith)
 
--- src/walk.rt:67:1
 returns-3 : tie.Need-returns-3
 returns-3 c = search (lower-taken, arith)
 
--- src/walk.rt:67:1
 returns-4 : tie.Need-returns-4
 returns-4 c = search lower-first
 

@@ -7,17 +7,14 @@ use Rattle.walk.proofs.walk.next_stack.Lts as lts
 use Rattle.walk.proofs.walk.least_inode.Reads as least-inode-reads
 use Rattle.walk.proofs.walk.take_stack.Reads as take-stack-reads
 
--- src/walk.rt:140:9
 least-inode-requires : tie.Need-least-inode-requires
 least-inode-requires c κs = search needs
 
--- src/walk.rt:141:9
 take-stack-requires : tie.Need-take-stack-requires
 take-stack-requires c κs = search needs
 
--- src/walk.rt:136:1
 returns : tie.Need-returns
-returns c = stepped (c .before .before .before .pre) (c .before .least-inode .ensures) (c .take-stack .ensures)
+returns c = stepped (c .before .before .before .before .before .pre) (c .before .before .least-inode .ensures) (c .take-stack .ensures)
 
 pub next-stack-spec : {M : Type 1} → statement M
 next-stack-spec = tie.close (tie.spec least-inode-requires take-stack-requires returns)

@@ -1,7 +1,8 @@
 use Prim.Native.Nat.{_-_}
 use native.Mathlib.Omega.{arith}
+use mathlib.Core.Path.{refl}
 use borrow.Author.Needs.{needs}
-use Rattle.walk.proofs.Stepping.{layer-sound, Taking, taking-start, taking-more, taking-all}
+use Rattle.walk.proofs.Stepping.{Layering, base-sound, layering-start, layer-sound, layering-more, layering-all}
 use Rattle.walk.proofs.walk.take_stack.Statement.{statement}
 use Rattle.walk.proofs.walk.take_stack.Tie as tie
 use Rattle.walk.proofs.walk.take_stack.Reads as reads
@@ -10,76 +11,62 @@ use Rattle.survey.proofs.batch.pushed.Reads as pushed-reads
 use Rattle.walk.proofs.run.has_inode.Reads as has-inode-reads
 use Rattle.walk.proofs.run.past_inode.Reads as past-inode-reads
 use Rattle.walk.proofs.run.place_under.Reads as place-under-reads
+use Rattle.walk.proofs.run.run_of.Reads as run-of-reads
+use Rattle.walk.proofs.run.set_run.Reads as set-run-reads
 
 abbrev Inv-loop : tie.InvT-loop
-Inv-loop img inode walk rest₀ stack₀ top₀ i₀ rest stack top i = Taking img walk inode rest stack top i
+Inv-loop img runs₀ count inode stack₀ top₀ i₀ runs stack top i = Layering img count inode runs₀ stack₀ top₀ runs stack top i
 
 abbrev μ-loop : tie.MeasureT-loop
-μ-loop img inode walk rest₀ stack₀ top₀ i₀ rest stack top i = walk .count - i
+μ-loop img runs₀ count inode stack₀ top₀ i₀ runs stack top i = count - i
 
--- src/walk.rt:111:17
+run-of-requires : tie.Need-run-of-requires Inv-loop μ-loop
+run-of-requires c κs = search needs
+
 past-inode-requires : tie.Need-past-inode-requires Inv-loop μ-loop
-past-inode-requires c κs = search needs
+past-inode-requires c κs = base-sound (c .before .before .before .before .pre) (c .before .run-of .ensures)
 
--- src/walk.rt:113:15
+set-run-requires : tie.Need-set-run-requires Inv-loop μ-loop
+set-run-requires c κs = search needs
+
 place-under-requires : tie.Need-place-under-requires Inv-loop μ-loop
-place-under-requires c κs = search needs
+place-under-requires c κs = base-sound (c .before .before .before .before .before .before .pre) (c .before .before .before .run-of .ensures)
 
--- src/walk.rt:117:9
 has-inode-requires : tie.Need-has-inode-requires Inv-loop μ-loop
 has-inode-requires c κs = search needs
 
--- src/walk.rt:119:5
 loop-holds : tie.Need-loop-holds Inv-loop μ-loop
-loop-holds c = search taking-start
+loop-holds c = layering-start (c .before .before .before .before .before .before .before .before .pre) (c .before .before .before .before .before .run-of .ensures) (c .before .before .before .past-inode .ensures) (c .before .before .set-run .ensures) refl refl
 
--- src/walk.rt:120:19
-mul-run : tie.Need-mul-run Inv-loop μ-loop
-mul-run c = search needs
-
--- src/walk.rt:120:19
-element-copy-out-run : tie.Need-element-copy-out-run Inv-loop μ-loop
-element-copy-out-run c = search needs
-
--- src/walk.rt:121:26
-past-inode-requires-2 : tie.Need-past-inode-requires-2 Inv-loop μ-loop
-past-inode-requires-2 c κs = layer-sound (c .before .before .before .before .before .before .before .before .pre) (c .before .before .loop .i) _ (omega arith)
-
--- src/walk.rt:121:9
-mul-t16 : tie.Need-mul-t16 Inv-loop μ-loop
-mul-t16 c = search needs
-
--- src/walk.rt:121:9
-element-set-from-rest : tie.Need-element-set-from-rest Inv-loop μ-loop
-element-set-from-rest c = search needs
-
--- src/walk.rt:122:31
-place-under-requires-2 : tie.Need-place-under-requires-2 Inv-loop μ-loop
-place-under-requires-2 c κs = layer-sound (c .before .before .before .before .before .before .before .before .before .pre) (c .before .before .before .loop .i) _ (omega arith)
-
--- src/walk.rt:122:9
-pushed-requires : tie.Need-pushed-requires Inv-loop μ-loop
-pushed-requires c κs = search needs
-
--- src/walk.rt:123:9
-has-inode-requires-2 : tie.Need-has-inode-requires-2 Inv-loop μ-loop
-has-inode-requires-2 c κs = search needs
-
--- src/walk.rt:124:9
 add-i : tie.Need-add-i Inv-loop μ-loop
 add-i c = search needs
 
--- src/walk.rt:119:5
+run-of-requires-2 : tie.Need-run-of-requires-2 Inv-loop μ-loop
+run-of-requires-2 c κs = search needs
+
+past-inode-requires-2 : tie.Need-past-inode-requires-2 Inv-loop μ-loop
+past-inode-requires-2 c κs = layer-sound (c .before .before .before .before .loop .inv) (omega arith) (c .before .run-of2 .ensures)
+
+set-run-requires-2 : tie.Need-set-run-requires-2 Inv-loop μ-loop
+set-run-requires-2 c κs = search needs
+
+place-under-requires-2 : tie.Need-place-under-requires-2 Inv-loop μ-loop
+place-under-requires-2 c κs = layer-sound (c .before .before .before .before .before .before .loop .inv) (omega arith) (c .before .before .before .run-of2 .ensures)
+
+pushed-requires : tie.Need-pushed-requires Inv-loop μ-loop
+pushed-requires c κs = search needs
+
+has-inode-requires-2 : tie.Need-has-inode-requires-2 Inv-loop μ-loop
+has-inode-requires-2 c κs = search needs
+
 loop-less : tie.Need-loop-less Inv-loop μ-loop
 loop-less c = search needs
 
--- src/walk.rt:119:5
 loop-again : tie.Need-loop-again Inv-loop μ-loop
-loop-again c = taking-more (c .before .before .before .before .before .before .before .before .before .before .before .before .pre) (c .before .before .before .before .before .before .loop .inv) (omega arith) _ (c .before .before .before .past-inode2 .ensures) (c .before .before .place-under2 .ensures) (c .before .pushed .ensures) (c .has-inode2 .ensures)
+loop-again c = layering-more (c .before .before .before .before .before .before .before .before .before .loop .inv) (omega arith) (c .before .before .before .before .before .before .run-of2 .ensures) (c .before .before .before .before .past-inode2 .ensures) (c .before .before .place-under2 .ensures) (c .before .pushed .ensures) (c .has-inode2 .ensures) (c .before .before .before .set-run2 .ensures)
 
--- src/walk.rt:105:1
 returns : tie.Need-returns Inv-loop μ-loop
-returns c = search (taking-all, arith)
+returns c = layering-all (c .before .before .before .before .before .before .before .before .before .before .pre) (c .before .before .before .before .before .before .before .run-of .ensures) (c .before .before .before .before .before .past-inode .ensures) (c .before .before .before .before .set-run .ensures) (c .before .before .before .place-under .ensures) (c .before .before .has-inode .ensures) (c .before .loop .inv) (omega arith)
 
 pub take-stack-spec : {M : Type 1} → statement M
 take-stack-spec =
@@ -87,19 +74,19 @@ take-stack-spec =
     (tie.spec
     Inv-loop
     μ-loop
+    run-of-requires
     past-inode-requires
+    set-run-requires
     place-under-requires
     has-inode-requires
     loop-holds
-    mul-run
-    element-copy-out-run
+    add-i
+    run-of-requires-2
     past-inode-requires-2
-    mul-t16
-    element-set-from-rest
+    set-run-requires-2
     place-under-requires-2
     pushed-requires
     has-inode-requires-2
-    add-i
     loop-less
     loop-again
     returns)
