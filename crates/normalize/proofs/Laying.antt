@@ -118,33 +118,33 @@ module _ (b : Base) (ls : List Layer) (l : Layer) where
   unfolding stackOn
   stack-top k r p g i = i .pieces ∙ rw (stack-append, g)
 
-  module _ {img old : List ℕ} {at : ℕ} {rest : Walk} {buf : List ℕ} {next : ℕ} {step : Step} (s : Steps img rest step) (m : step .more ≡ true)
+  module _ {img old : List ℕ} {at : ℕ} {rest : Walk} {buf : List ℕ} {next : ℕ} {step : Step} {after : Walk} (s : Steps img rest step after) (m : step .more ≡ true)
       {out : List ℕ} {q : ℕ} (p : PutsStep img (step .top) (step .inode) (step .stack) buf next q out) where
-    rows-next : RowsLeft img old at rest buf next → RowsLeft img old at (step .rest) out q
+    rows-next : RowsLeft img old at rest buf next → RowsLeft img old at after out q
     unfolding pass rowsBytes
     rows-next w = go (w .left) (w .tops) (w .found) (w .put)
       where
         k : ℕ
         k = step .inode
 
-        all : Every (Is b (ls ++ (l ∷ []))) ((k, piecesIn img (step .stack)) ∷ stacksLeft img (step .rest))
+        all : Every (Is b (ls ++ (l ∷ []))) ((k, piecesIn img (step .stack)) ∷ stacksLeft img after)
         all = rw (s .stacks, m) at (w .each)
 
-        rest-tops : topOf (sourcesOf img (step .rest)) ≡ pass byNumber k (topOf (sourcesOf img rest))
+        rest-tops : topOf (sourcesOf img after) ≡ pass byNumber k (topOf (sourcesOf img rest))
         rest-tops = ap topOf (s .taken .rest) ∙ top-pass k (sourcesOf img rest)
 
         stays : (x : List (ℕ × Record)) → topOf (sourcesOf img rest) ≡ records x → Every Found x → ((r : ℕ) (new : List ℕ) → Put buf next (bytesOf x) r new → Put old at (bytesOf (l .rows)) r new)
-            → isThere (headIf byNumber k (records x)) ≡ false → pass byNumber k (records x) ≡ records x → RowsLeft img old at (step .rest) out q
+            → isThere (headIf byNumber k (records x)) ≡ false → pass byNumber k (records x) ≡ records x → RowsLeft img old at after out q
         stays x t f u h v =
             let y = p .passed (s .taken .top ∙ rw t h) in
             record { left = x; tops = rest-tops ∙ rw t v; found = f; each = all .1; put = λ r new z. u r new (rw (← (y .0), ← (y .1)) z) }
 
         go : (x : List (ℕ × Record)) → topOf (sourcesOf img rest) ≡ records x → Every Found x → ((r : ℕ) (new : List ℕ) → Put buf next (bytesOf x) r new → Put old at (bytesOf (l .rows)) r new)
-            → RowsLeft img old at (step .rest) out q
+            → RowsLeft img old at after out q
         go [] t f u = stays [] t f u refl refl
         go (e ∷ x) t f u = pick (cmpN k (e .0)) refl
           where
-            pick : (d : Ordering) → cmpN k (e .0) ≡ d → RowsLeft img old at (step .rest) out q
+            pick : (d : Ordering) → cmpN k (e .0) ≡ d → RowsLeft img old at after out q
             pick Less c = stays (e ∷ x) t f u (rw c) (rw c)
             pick Greater c = stays (e ∷ x) t f u (rw c) (rw c)
             pick Equal c =
@@ -172,11 +172,11 @@ pub record Laying (img : List ℕ) (w : Walk) (old : List ℕ) (at : ℕ) (rest 
 pub laying-start : {img : List ℕ} {w : Walk} {old : List ℕ} {at : ℕ} → Ready img w → at ≤ edge → length old < edge → Laying img w old at w old at
 laying-start r a s = record { ready = r; low = a; same = refl; short = s; puts = λ b ls l o. rows-start b ls l o }
 
-module _ {img : List ℕ} {w : Walk} {old : List ℕ} {at : ℕ} {rest : Walk} {buf : List ℕ} {next : ℕ} (g : Laying img w old at rest buf next) {step : Step} (s : Steps img rest step) where
-  pub laying-less : step .more ≡ true → length (stacksLeft img (step .rest)) < length (stacksLeft img rest)
+module _ {img : List ℕ} {w : Walk} {old : List ℕ} {at : ℕ} {rest : Walk} {buf : List ℕ} {next : ℕ} (g : Laying img w old at rest buf next) {step : Step} {after : Walk} (s : Steps img rest step after) where
+  pub laying-less : step .more ≡ true → length (stacksLeft img after) < length (stacksLeft img rest)
   laying-less m = rw (s .stacks, m) (omega arith)
 
-  pub laying-more : step .more ≡ true → {out : List ℕ} {q : ℕ} → PutsStep img (step .top) (step .inode) (step .stack) buf next q out → Laying img w old at (step .rest) out q
+  pub laying-more : step .more ≡ true → {out : List ℕ} {q : ℕ} → PutsStep img (step .top) (step .inode) (step .stack) buf next q out → Laying img w old at after out q
   laying-more m p = record { ready = s .ready; low = p .low (g .low); same = p .same ∙ g .same; short = g .short; puts = λ b ls l o. rows-next b ls l s m p (g .puts b ls l o) }
 
   pub laying-end : step .more ≡ false → PutsRows img w old at next buf

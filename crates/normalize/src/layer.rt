@@ -35,13 +35,13 @@ pub fn put_normal_rows(buf: &mut [u8], at: usize, img: &[u8], walk: Walk) -> usi
     ensures { λ r. ⌜ PutsRows (now (img .entry)) walk (now (buf .entry)) at r (now (buf .exit)) ⌝ }
 {
     let mut next = at;
-    let mut rest = walk;
+    let mut runs = walk.runs;
+    let count = walk.count;
     loop {
-        let step = next_stack(img, rest);
+        let step = next_stack(img, &mut runs, count);
         if step.more {
             let stack = step.stack;
             next = put_normal_step(buf, next, img, step.top, step.inode, stack);
-            rest = step.rest;
         } else {
             return next;
         }

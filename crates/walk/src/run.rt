@@ -48,7 +48,7 @@ pub fn set_run(runs: &mut [u64; 72], i: usize, run: Run)
 }
 
 // A run with no rows left.
-pub fn no_run() -> Run
+fn no_run() -> Run
     ensures { λ r. ⌜ Ended r ⌝ }
 {
     Run {
