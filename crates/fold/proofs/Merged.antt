@@ -22,6 +22,8 @@ use Rattle.stack.specs.Stacks.{recordsIn, nodeIn}
 use Rattle.merge.specs.Pile.{laid, pile, total, itself, decisions}
 use Rattle.merge.specs.Sources.{Given, Decided, sourceRows}
 use Rattle.merge.specs.Merges.{sourcesOf, givenBy}
+use Rattle.merge.specs.Slots.{sourcesIn}
+use Rattle.merge.proofs.Merging.{all-long}
 use Rattle.merge.specs.declared.merge.Sources.{Sources}
 use Rattle.merge.proofs.Piles.{pile-merged}
 use Rattle.gather.specs.Gathers.{pileOf, Short, Gathers}
@@ -80,7 +82,7 @@ module _ {img : List ℕ} {s : InodeLayerStack} {l : Lists} {r : Sources} (g : G
   gathered-few = record {
     ready = gathered-ready g;
     few =
-        let n : length (sourcesOf img r) ≤ 35 = rw (length-map (take (r .count) (r .rows)) (sourceRows img), length-take-le (r .count) (r .rows) (omega (arith, g .whole .wide, g .whole .few))) (g .whole .few) in
+        let n : length (sourcesOf img r) ≤ 35 = rw (length-map (take (r .count) (sourcesIn (r .rows))) (sourceRows img), length-take-le (r .count) (sourcesIn (r .rows)) (omega (arith, all-long (g .whole), g .whole .few))) (g .whole .few) in
         omega (arith, pile-few byBytes (itself byBytes) (sourcesOf img r), total-short (sourcesOf img r) (g .short), n);
   }
 

@@ -1,83 +1,89 @@
--- The loops that write and count the rows that sources give.
+-- The loop that writes and counts the rows that sources give, and a list of them.
 -- Assumes nothing.
-use mathlib.Core.Path.{_≡_, refl, _∙_}
+use mathlib.Core.Path.{_≡_, refl, sym, ap, _∙_}
 use mathlib.Core.Bool.{true, false}
-use mathlib.Core.List.{List}
-use Prim.Native.Nat.{ℕ, _+_, _≤_, _<_}
+use mathlib.Core.List.{List, [], _∷_, _++_}
+use Prim.Native.Nat.{ℕ, _+_, _≤_, _<_, min}
 use native.Mathlib.Omega.{arith}
 use mir.Syntax.{w64}
 use mir.Val.{Fits}
-use lib.ListN.{length}
-use Rattle.wire.specs.Number.{edge}
+use lib.ListN.{length, length-append}
+use lib.Seq.{sets, length-sets}
+use Rattle.wire.specs.Number.{edge, numberBytes}
 use Rattle.wire.specs.Put.{Put}
 use Rattle.wire.proofs.Puts.{put-append, put-length}
 use Rattle.writers.proofs.Writing.{put-nothing}
-use Rattle.merge.specs.Merges.{Ready, givenBy, givenOfMerge, mergeGives, Settles}
+use Rattle.merge.specs.Merges.{Ready, givenBy, mergeOf, mergeGives, Gives}
+use Rattle.image.specs.Meaning.{Text}
+use Rattle.merge.specs.Sources.{Given}
+use Rattle.merge.specs.declared.source.Head.{Head}
 use Rattle.merge.specs.declared.merge.Sources.{Sources}
-use Rattle.merge.specs.declared.merge.Merge.{Merge}
-use Rattle.fold.specs.Lists.{rowGiven, rowsGiven, Few}
+use Rattle.fold.specs.Lists.{rowGiven, rowsGiven, listGiven, givenOfHead, Few, PutsRows}
 use Rattle.fold.specs.declared.list.NameList.{NameList}
 
+-- the row that stands first and those that follow
+abbrev rowsLeft : List ℕ → Head → Sources → List (Text × (ℕ × Given))
+rowsLeft img h rest = mergeGives img (mergeOf h rest)
+
 -- one row less
-one-given : {img : List ℕ} (m : Merge) {next : Merge} → m .more ≡ true → Settles img (m .all) next → length (mergeGives img m) ≡ 1 + length (mergeGives img next)
-one-given m e t = rw (e, t .gives) (omega arith)
+one-given : {img : List ℕ} (h : Head) {rest : Sources} {next : Head} {past : Sources} → h .more ≡ true → Gives img rest next past → length (rowsLeft img h rest) ≡ 1 + length (rowsLeft img next past)
+one-given h e t = rw (e, t .settles .gives) (omega arith)
 
--- ---- writing: what is left, written from i on, makes the whole
-
-pub record Writing (l₀ : List ℕ) (at : ℕ) (img : List ℕ) (m₀ : Merge) (n : NameList) (l : List ℕ) (m : Merge) (i : ℕ) : Type 0 where
-  pub ready : Ready img (m .all)
+-- what is left, written from i on, makes the whole; k were written
+pub record Writing (l₀ : List ℕ) (at : ℕ) (img : List ℕ) (n : NameList) (h₀ : Head) (rest₀ : Sources) (l : List ℕ) (h : Head) (rest : Sources) (i k : ℕ) : Type 0 where
+  pub ready : Ready img rest
   pub long : length l ≡ length l₀
   pub low : i ≤ edge
-  pub on : (r : ℕ) (k : List ℕ) → Put l i (rowsGiven n (mergeGives img m)) r k → Put l₀ at (rowsGiven n (mergeGives img m₀)) r k
+  pub on : (r : ℕ) (m : List ℕ) → Put l i (rowsGiven n (rowsLeft img h rest)) r m → Put l₀ at (rowsGiven n (rowsLeft img h₀ rest₀)) r m
+  pub counts : length (rowsLeft img h₀ rest₀) ≡ k + length (rowsLeft img h rest)
 
-module _ {l₀ : List ℕ} {at : ℕ} {img : List ℕ} {m₀ : Merge} {n : NameList} where
-  pub writing-none : {all : Sources} → Settles img all m₀ → Fits w64 at → Writing l₀ at img m₀ n l₀ m₀ at
-  writing-none t f = record { ready = t .ready; long = refl; low = omega (arith, f .fits); on = λ r k p. p }
+module _ {l₀ : List ℕ} {at : ℕ} {img : List ℕ} {n : NameList} {h₀ : Head} {rest₀ : Sources} where
+  pub writing-none : {all : Sources} → Gives img all h₀ rest₀ → Fits w64 at → Writing l₀ at img n h₀ rest₀ l₀ h₀ rest₀ at 0
+  writing-none t f = record { ready = t .settles .ready; long = refl; low = omega (arith, f .fits); on = λ r k p. p; counts = omega arith }
 
-  module _ {l : List ℕ} {m : Merge} {i : ℕ} (g : Writing l₀ at img m₀ n l m i) where
-    pub writing-less : m .more ≡ true → {next : Merge} → Settles img (m .all) next → length (mergeGives img next) < length (mergeGives img m)
-    writing-less e t = omega (arith, one-given m e t)
+  module _ {l : List ℕ} {h : Head} {rest : Sources} {i k : ℕ} (g : Writing l₀ at img n h₀ rest₀ l h rest i k) where
+    pub writing-room : {all : Sources} → Few img all → Gives img all h₀ rest₀ → h .more ≡ true → k + 1 ≤ edge
+    writing-room f t e =
+        let some-left : 1 ≤ length (rowsLeft img h rest) = rw e (omega arith) in
+        omega (arith, f .few, ap length (t .settles .gives), g .counts)
 
-    pub writing-more : m .more ≡ true → {j : ℕ} {k : List ℕ} → Put l i (rowGiven n (givenOfMerge img m)) j k → {next : Merge} → Settles img (m .all) next
-        → Writing l₀ at img m₀ n k next j
+    pub writing-less : h .more ≡ true → {next : Head} {past : Sources} → Gives img rest next past → length (rowsLeft img next past) < length (rowsLeft img h rest)
+    writing-less e t = omega (arith, one-given h e t)
+
+    pub writing-more : h .more ≡ true → {j : ℕ} {m : List ℕ} → Put l i (rowGiven n (givenOfHead img h)) j m → {next : Head} {past : Sources} → Gives img rest next past
+        → Writing l₀ at img n h₀ rest₀ m next past j (k + 1)
     unfolding rowsGiven
-    writing-more e {j} {k} w t = record {
-      ready = t .ready;
+    writing-more e {j} {m} w t = record {
+      ready = t .settles .ready;
       long = put-length w ∙ g .long;
       low = omega (arith, w .to);
       on = λ r q p.
-          let x : Put k j (rowsGiven n (givenBy img (m .all))) r q = rw (t .gives) p in
+          let x : Put m j (rowsGiven n (givenBy img rest)) r q = rw (t .settles .gives) p in
           g .on r q (rw e (put-append w x));
+      counts = omega (arith, g .counts, one-given h e t);
     }
 
-    pub writing-all : {all : Sources} → Settles img all m₀ → m .more ≡ false → length l₀ < edge → Put l₀ at (rowsGiven n (givenBy img all)) i l
+    pub writing-all : {all : Sources} → Gives img all h₀ rest₀ → h .more ≡ false → length l₀ < edge → PutsRows img all n l₀ at (record { end = i; count = k }) l
     unfolding rowsGiven
-    writing-all t e h = rw (t .gives) (g .on i l (rw e (put-nothing (omega (arith, g .long)) (record { fits = omega (arith, g .low) }))))
+    writing-all t e b = record {
+      puts = rw (t .settles .gives) (g .on i l (rw e (put-nothing (omega (arith, g .long)) (record { fits = omega (arith, g .low) }))));
+      counts = let z = rw e at (g .counts) in sym (ap length (t .settles .gives) ∙ z ∙ omega arith);
+    }
 
--- ---- counting
+-- ---- their count first
 
-pub record Tallying (img : List ℕ) (m₀ m : Merge) (n : ℕ) : Type 0 where
-  pub ready : Ready img (m .all)
-  pub are : length (mergeGives img m₀) ≡ n + length (mergeGives img m)
+no-bytes : (l : List ℕ) → length l ≡ 0 → l ≡ []
+no-bytes [] h = refl
+no-bytes (b ∷ l) h = absurd (omega arith)
 
-pub tally-none : {img : List ℕ} {all : Sources} {m : Merge} → Settles img all m → Tallying img m m 0
-tally-none t = record { ready = t .ready; are = omega arith }
+-- nothing is written into an empty buffer
+sets-empty : (l : List ℕ) (at : ℕ) (xs : List ℕ) → length l ≡ 0 → sets l at xs ≡ []
+sets-empty l at xs h = no-bytes (sets l at xs) (length-sets l at xs ∙ h)
 
-module _ {img : List ℕ} {all : Sources} {m₀ m : Merge} {n : ℕ} (t₀ : Settles img all m₀) (g : Tallying img m₀ m n) where
-  all-given : length (givenBy img all) ≡ n + length (mergeGives img m)
-  all-given = rw (t₀ .gives) (g .are)
-
-  some-given : m .more ≡ true → 1 ≤ length (mergeGives img m)
-  some-given e = rw e (omega arith)
-
-  pub tally-room : Few img all → m .more ≡ true → n + 1 ≤ edge
-  tally-room f e = omega (arith, all-given, f .few, some-given e)
-
-  pub tally-less : m .more ≡ true → {next : Merge} → Settles img (m .all) next → length (mergeGives img next) < length (mergeGives img m)
-  tally-less e t = omega (arith, one-given m e t)
-
-  pub tally-more : m .more ≡ true → {next : Merge} → Settles img (m .all) next → Tallying img m₀ next (n + 1)
-  tally-more e t = record { ready = t .ready; are = omega (arith, g .are, one-given m e t) }
-
-  pub tally-all : m .more ≡ false → n ≡ length (givenBy img all)
-  tally-all e = let z = rw e at all-given in omega (arith, z)
+-- into an empty buffer: what was measured from 0 on is added
+pub put-measured : {l m : List ℕ} {at q e r : ℕ} {xs ys k o : List ℕ} → length l ≡ 0 → Put l at xs q m → Put k 0 ys e o → r ≡ min (q + e) edge → Put l at (xs ++ ys) r m
+put-measured {l} {m} {at} {q} {e} {r} {xs} {ys} z p w h = record {
+  to = omega (arith, p .to, w .to, length-append xs ys);
+  is = p .is ∙ sets-empty l at xs z ∙ sym (sets-empty l at (xs ++ ys) z);
+  short = p .short;
+}

@@ -1,12 +1,16 @@
 -- The lists that fold makes of a stack. Document 01: "Delta of the node's kind: applied, entries sorted, no empty attribute map."
+use mathlib.Core.Path.{_≡_}
 use mathlib.Core.List.{List, [], _∷_, _++_}
 use Prim.Native.Nat.{ℕ, _≤_}
 use lib.ListN.{length}
 use Rattle.wire.specs.Orders.{byBytes}
 use Rattle.wire.specs.Number.{edge, numberBytes}
 use Rattle.wire.specs.Combinators.{_then_}
+use Rattle.wire.specs.Put.{Put}
+use Rattle.wire.specs.Reading.{part}
 use Rattle.image.specs.Meaning.{Text, Entries, Attributes}
 use Rattle.image.specs.FieldLayout.{name, inode, value}
+use Rattle.nodes.specs.Options.{textAt}
 use Rattle.survey.specs.declared.batch.InodeLayerStack.{InodeLayerStack}
 use Rattle.rules.specs.Starts.{Started}
 use Rattle.rules.proofs.MapValues.{mapValues}
@@ -15,11 +19,13 @@ use Rattle.stack.specs.Stacks.{recordsIn, nodeIn}
 use Rattle.merge.specs.Pile.{merged, itself}
 use Rattle.merge.specs.Sources.{Given}
 use Rattle.merge.specs.Merges.{Ready, givenBy}
+use Rattle.merge.specs.declared.source.Head.{Head}
 use Rattle.merge.specs.declared.merge.Sources.{Sources}
 use Rattle.merge.proofs.Lists.{Deciding}
 use Rattle.gather.specs.Gathers.{pileOf}
 use Rattle.gather.specs.declared.gather.Lists.the-variants as L
 use Rattle.fold.specs.declared.list.NameList.{NameList}
+use Rattle.fold.specs.declared.list.Rows.{Rows}
 use Rattle.fold.specs.declared.list.NameList.the-variants as N
 
 -- ---- rows as they are written
@@ -37,10 +43,19 @@ rowsGiven l (e ∷ es) = rowGiven l e ++ rowsGiven l es
 abbrev pub listGiven : NameList → List (Text × (ℕ × Given)) → List ℕ
 listGiven l es = numberBytes (length es) ++ rowsGiven l es
 
+-- a name that a row gives, with its start and what it is given
+abbrev pub givenOfHead : List ℕ → Head → Text × (ℕ × Given)
+givenOfHead img h = (part img (h .start) (h .length), (h .start, (h .inode, textAt img (h .value))))
+
 -- a number holds the count
 pub record Few (img : List ℕ) (all : Sources) : Type 0 where
   pub ready : Ready img all
   pub few : length (givenBy img all) ≤ edge
+
+-- the rows that sources give, written and counted
+pub record PutsRows (img : List ℕ) (all : Sources) (l : NameList) (old : List ℕ) (at : ℕ) (r : Rows) (new : List ℕ) : Type 0 where
+  pub puts : Put old at (rowsGiven l (givenBy img all)) (r .end) new
+  pub counts : r .count ≡ length (givenBy img all)
 
 -- ---- the lists of a stack merged
 

@@ -1,22 +1,21 @@
 // The attributes and entries that fold makes of a stack: its lists merged by name, and written with their count first.
-ghost use mathlib.Core.Path.{_≡_};
-ghost use lib.ListN.{length};
 ghost use Rattle.wire.specs.Combinators.{_then_};
 ghost use Rattle.wire.specs.Put.{Put};
 ghost use Rattle.image.specs.FieldLayout.{name as nameCodec, value as valueCodec, attributes, entries};
 ghost use Rattle.nodes.specs.Options.{textAt};
 ghost use Rattle.stack.specs.Stacks.{Stacked};
-ghost use Rattle.merge.specs.Merges.{Ready, givenBy, givenOfMerge};
-ghost use Rattle.fold.specs.Lists.{rowGiven, rowsGiven, listGiven, Few, attributesOf, entriesOf};
+ghost use Rattle.merge.specs.Merges.{givenBy};
+ghost use Rattle.fold.specs.Lists.{rowGiven, listGiven, givenOfHead, Few, PutsRows, attributesOf, entriesOf};
 use attrs::node::FileType;
 use gather::gather::Lists;
 use gather::gather::gather_sources;
-use merge::merge::Merge;
 use merge::merge::Sources;
-use merge::merge::settle;
+use merge::merge::next_given;
+use merge::source::Head;
 use nodes::part::Part;
 use survey::batch::InodeLayerStack;
 use wire::number::put_number;
+use wire::put::advance;
 use writers::write::put_entry;
 use writers::write::put_text_part;
 
@@ -24,6 +23,12 @@ use writers::write::put_text_part;
 pub enum NameList {
     Entries,
     Attributes,
+}
+
+// Rows that were written: the place after them, and how many they are.
+pub struct Rows {
+    pub end: usize,
+    pub count: u64,
 }
 
 // Writes an attribute, whose name and value are parts of the image.
@@ -34,58 +39,52 @@ fn put_attribute(buf: &mut [u8], at: usize, img: &[u8], name: Part, value: Part)
     put_text_part(buf, next, img, value)
 }
 
-// Writes the name that a merge is at, and what it is given.
-fn put_row(buf: &mut [u8], at: usize, img: &[u8], merge: Merge, list: NameList) -> usize
-    ensures { λ r. ⌜ Put (now (buf .entry)) at (rowGiven list (givenOfMerge (now (img .entry)) merge)) r (now (buf .exit)) ⌝ }
+// Writes a name that is given, and what it is given.
+fn put_row(buf: &mut [u8], at: usize, img: &[u8], head: Head, list: NameList) -> usize
+    ensures { λ r. ⌜ Put (now (buf .entry)) at (rowGiven list (givenOfHead (now (img .entry)) head)) r (now (buf .exit)) ⌝ }
 {
     let name = Part {
-        start: merge.start,
-        length: merge.length,
+        start: head.start,
+        length: head.length,
     };
-    let value = merge.value;
+    let value = head.value;
     match list {
-        NameList::Entries => put_entry(buf, at, img, name, merge.inode),
+        NameList::Entries => put_entry(buf, at, img, name, head.inode),
         NameList::Attributes => put_attribute(buf, at, img, name, value),
     }
 }
 
-// Writes the rows that the sources give.
-fn put_rows(buf: &mut [u8], at: usize, img: &[u8], all: Sources, list: NameList) -> usize
-    requires { ⌜ Ready (now img) all ⌝ }
-    ensures { λ r. ⌜ Put (now (buf .entry)) at (rowsGiven list (givenBy (now (img .entry)) all)) r (now (buf .exit)) ⌝ }
-{
-    let mut merge = settle(img, all);
-    let mut next = at;
-    while merge.more {
-        next = put_row(buf, next, img, merge, list);
-        let rest = merge.all;
-        merge = settle(img, rest);
-    }
-    next
-}
-
-// How many rows the sources give.
-fn count_given(img: &[u8], all: Sources) -> u64
+// Writes the rows that the sources give, and counts them.
+fn put_rows(buf: &mut [u8], at: usize, img: &[u8], all: Sources, list: NameList) -> Rows
     requires { ⌜ Few (now img) all ⌝ }
-    ensures { λ r. ⌜ r ≡ length (givenBy (now (img .entry)) all) ⌝ }
+    ensures { λ r. ⌜ PutsRows (now (img .entry)) all list (now (buf .entry)) at r (now (buf .exit)) ⌝ }
 {
-    let mut merge = settle(img, all);
+    let mut rows = all.rows;
+    let sources = all.count;
+    let mut head = next_given(img, &mut rows, sources);
+    let mut end = at;
     let mut count: u64 = 0;
-    while merge.more {
+    while head.more {
+        end = put_row(buf, end, img, head, list);
         count += 1;
-        let rest = merge.all;
-        merge = settle(img, rest);
+        head = next_given(img, &mut rows, sources);
     }
-    count
+    Rows { end, count }
 }
 
-// Writes the rows that the sources give, their count first.
+// Writes the rows that the sources give, their count first. Into an empty buffer they are written once, to be counted and measured.
 fn put_list(buf: &mut [u8], at: usize, img: &[u8], all: Sources, list: NameList) -> usize
     requires { ⌜ Few (now img) all ⌝ }
     ensures { λ r. ⌜ Put (now (buf .entry)) at (listGiven list (givenBy (now (img .entry)) all)) r (now (buf .exit)) ⌝ }
 {
-    let next = put_number(buf, at, count_given(img, all));
-    put_rows(buf, next, img, all, list)
+    let mut none = [0u8; 0];
+    let measured = put_rows(&mut none, 0, img, all, list);
+    let first = put_number(buf, at, measured.count);
+    if buf.len() == 0 {
+        return advance(first, measured.end);
+    }
+    let written = put_rows(buf, first, img, all, list);
+    written.end
 }
 
 // Writes the attributes that fold makes of a stack whose node is of the type.

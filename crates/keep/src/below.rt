@@ -14,7 +14,6 @@ use lookup::child::base_entries;
 use merge::merge::AtMostTwo;
 use merge::merge::Sources;
 use merge::merge::list_if;
-use merge::merge::no_sources;
 use merge::merge::push_lists;
 use merge::source::source_at;
 use stack::stack::record_at;
@@ -36,18 +35,24 @@ pub fn names_in(img: &[u8], stack: InodeLayerStack) -> Sources
     requires { ⌜ Stacked (now img) stack ⌝ }
     ensures { λ r. ⌜ Leads (now (img .entry)) stack r ⌝ }
 {
-    let mut all = no_sources();
+    let mut rows = [0u64; 105];
+    let mut count: usize = 0;
     let mut i = stack.count;
     while 0 < i {
         i -= 1;
         let entry = record_at(img, stack, i);
         let EntryDelta::Node(delta) = entry else {
-            return all;
+            return Sources { rows, count };
         };
         let NodeDelta::Directory(directory) = delta else {
-            return all;
+            return Sources { rows, count };
         };
-        all = push_lists(all, directory_lists(img, directory));
+        count = push_lists(&mut rows, count, directory_lists(img, directory));
     }
-    push_lists(all, list_if(img, base_entries(img, stack), Under::Inode))
+    count = push_lists(
+        &mut rows,
+        count,
+        list_if(img, base_entries(img, stack), Under::Inode),
+    );
+    Sources { rows, count }
 }

@@ -6,35 +6,27 @@ use Rattle.fold.proofs.list.put_row.Lts as lts
 use Rattle.fold.proofs.list.put_attribute.Reads as put-attribute-reads
 use Rattle.writers.proofs.write.put_entry.Reads as put-entry-reads
 
--- src/list.rt:47:40
 enum-told : tie.Need-enum-told
 enum-told c = search needs
 
--- src/list.rt:47:30
 put-entry-requires : tie.Need-put-entry-requires
 put-entry-requires c κs = search needs
 
--- src/list.rt:48:47
 enum-told-2 : tie.Need-enum-told-2
 enum-told-2 c = search needs
 
--- src/list.rt:48:33
 put-attribute-requires : tie.Need-put-attribute-requires
 put-attribute-requires c κs = search needs
 
--- src/list.rt:38:1
 same-length : tie.Need-same-length
 same-length c = search needs
 
--- src/list.rt:38:1
 returns : tie.Need-returns
 returns c = rw (c .before .before .before .before .enum-told .given .1) (c .before .before .put-entry .ensures)
 
--- src/list.rt:38:1
 same-length-2 : tie.Need-same-length-2
 same-length-2 c = search needs
 
--- src/list.rt:38:1
 returns-2 : tie.Need-returns-2
 returns-2 c = rw (c .before .before .before .before .enum-told2 .given .1) (c .before .before .put-attribute .ensures)
 

@@ -1,52 +1,47 @@
-use borrow.Author.Needs.{needs}
 use native.Mathlib.Omega.{arith}
 use lib.ListN.{length}
-use Rattle.merge.specs.Merges.{mergeGives}
-use Rattle.fold.proofs.Spelling.{Writing, writing-less, writing-none, writing-more, writing-all}
+use borrow.Author.Needs.{needs}
+use Rattle.merge.specs.Merges.{mergeOf, mergeGives, sources as sourcesOf}
+use Rattle.fold.proofs.Spelling.{Writing, writing-none, writing-room, writing-less, writing-more, writing-all}
 use Rattle.fold.proofs.list.put_rows.Statement.{statement}
 use Rattle.fold.proofs.list.put_rows.Tie as tie
 use Rattle.fold.proofs.list.put_rows.Reads as reads
 use Rattle.fold.proofs.list.put_rows.Lts as lts
 use Rattle.fold.proofs.list.put_row.Reads as put-row-reads
-use Rattle.merge.proofs.merge.settle.Reads as settle-reads
+use Rattle.merge.proofs.merge.next_given.Reads as next-given-reads
 
 abbrev Inv-loop : tie.InvT-loop
-Inv-loop buf₀ at img list merge₀ next₀ buf merge next = Writing buf₀ at img merge₀ list buf merge next
+Inv-loop buf₀ at img list rows₀ sources head₀ end₀ count₀ buf rows head end count = Writing buf₀ at img list head₀ (sourcesOf rows₀ sources) buf head (sourcesOf rows sources) end count
 
 abbrev μ-loop : tie.MeasureT-loop
-μ-loop buf₀ at img list merge₀ next₀ buf merge next = length (mergeGives img merge)
+μ-loop buf₀ at img list rows₀ sources head₀ end₀ count₀ buf rows head end count = length (mergeGives img (mergeOf head (sourcesOf rows sources)))
 
--- src/list.rt:57:9
-settle-requires : tie.Need-settle-requires Inv-loop μ-loop
-settle-requires c κs = search needs
+next-given-requires : tie.Need-next-given-requires Inv-loop μ-loop
+next-given-requires c κs = (c .before .before .before .before .pre) .ready
 
--- src/list.rt:59:5
 loop-holds : tie.Need-loop-holds Inv-loop μ-loop
-loop-holds c = writing-none (c .settle .ensures) (c .before .before .before .fits .at)
+loop-holds c = writing-none (c .next-given .ensures) (search needs)
 
--- src/list.rt:60:9
 put-row-requires : tie.Need-put-row-requires Inv-loop μ-loop
 put-row-requires c κs = search needs
 
--- src/list.rt:62:9
-settle-requires-2 : tie.Need-settle-requires-2 Inv-loop μ-loop
-settle-requires-2 c κs = c .before .before .before .before .before .before .loop .inv .ready
+add-count : tie.Need-add-count Inv-loop μ-loop
+add-count c = record { fits = omega (arith, writing-room (c .before .before .before .before .before .loop .inv) (c .before .before .before .before .before .before .before .before .before .before .before .pre) (c .before .before .before .before .before .before .next-given .ensures) (c .before .before .before .before .loop-test .taken)) }
 
--- src/list.rt:59:5
+next-given-requires-2 : tie.Need-next-given-requires-2 Inv-loop μ-loop
+next-given-requires-2 c κs = c .before .before .before .before .before .before .loop .inv .ready
+
 loop-less : tie.Need-loop-less Inv-loop μ-loop
-loop-less c = writing-less (c .before .before .before .before .before .before .before .loop .inv) (c .before .before .before .before .before .before .loop-test .taken) (c .settle2 .ensures)
+loop-less c = writing-less (c .before .before .before .before .before .before .before .loop .inv) (c .before .before .before .before .before .before .loop-test .taken) (c .next-given2 .ensures)
 
--- src/list.rt:59:5
 loop-again : tie.Need-loop-again Inv-loop μ-loop
-loop-again c = writing-more (c .before .before .before .before .before .before .before .loop .inv) (c .before .before .before .before .before .before .loop-test .taken) (c .before .before .before .before .put-row .ensures) (c .settle2 .ensures)
+loop-again c = writing-more (c .before .before .before .before .before .before .before .loop .inv) (c .before .before .before .before .before .before .loop-test .taken) (c .before .before .before .before .put-row .ensures) (c .next-given2 .ensures)
 
--- src/list.rt:53:1
-returns : tie.Need-returns Inv-loop μ-loop
-returns c = writing-all (c .before .loop .inv) (c .before .before .settle .ensures) (c .loop-test .left) (omega arith)
-
--- src/list.rt:53:1
 same-length : tie.Need-same-length Inv-loop μ-loop
 same-length c = c .before .loop .inv .long
+
+returns : tie.Need-returns Inv-loop μ-loop
+returns c = writing-all (c .before .loop .inv) (c .before .before .next-given .ensures) (c .loop-test .left) (omega arith)
 
 pub put-rows-spec : {M : Type 1} → statement M
 put-rows-spec =
@@ -54,10 +49,11 @@ put-rows-spec =
     (tie.spec
     Inv-loop
     μ-loop
-    settle-requires
+    next-given-requires
     loop-holds
     put-row-requires
-    settle-requires-2
+    add-count
+    next-given-requires-2
     loop-less
     loop-again
     same-length
