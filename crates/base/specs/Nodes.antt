@@ -1,24 +1,25 @@
 -- The nodes that fold makes of stacks, by rising inode. Document 01: "Snapshot folds every layer, then drops non-directories with 0 links".
 use mathlib.Core.Path.{_≡_}
 use mathlib.Core.Option.{Option, none, some}
-use mathlib.Core.Bool.{Bool, true, false}
+use mathlib.Core.Bool.{Bool, true, false, cond}
 use mathlib.Core.List.{List, [], _∷_, _++_}
-use Prim.Native.Nat.{ℕ, _≤_}
+use Prim.Native.Nat.{ℕ, _+_, _≤_}
 use lib.ListN.{length}
 use Rattle.wire.specs.Maps.{sift}
 use Rattle.wire.specs.Number.{edge, numberBytes}
+use Rattle.wire.specs.Put.{Put}
 use Rattle.image.specs.Meaning as M
 use Rattle.image.specs.FieldLayout.{inode}
 use Rattle.image.specs.NodeLayout.{node}
 use Rattle.rules.specs.Initial.{usual}
 use Rattle.rules.specs.Queue.{kept}
 use Rattle.rules.proofs.Folded.{folded}
-use Rattle.nodes.specs.declared.node.Node.{Node}
-use Rattle.stack.specs.declared.stack.OptionNode.{OptionNode}
 use Rattle.merge.specs.Pile.{row}
-use Rattle.fold.specs.FoldedNodes.{Shows, ShowsIf}
+use Rattle.fold.specs.FoldedNodes.{Shows}
+use Rattle.fold.specs.declared.folded.Folded.{Folded}
 use Rattle.walk.specs.Walks.{Pieces, Ready, stacksLeft}
 use Rattle.walk.specs.declared.walk.Walk.{Walk}
+use Rattle.base.specs.declared.node.Nodes.{Nodes}
 
 -- ---- which nodes there are
 
@@ -27,11 +28,11 @@ abbrev pub keptIf : Bool → Option M.Node → Option M.Node
 keptIf true o = sift kept o
 keptIf false o = o
 
-pub record Keeps (n : Node) (b : Bool) : Type 0 where
-  pub says : (img : List ℕ) (m : M.Node) → Shows img n m → b ≡ kept m
+pub record Keeps (f : Folded) (b : Bool) : Type 0 where
+  pub says : (img : List ℕ) (m : M.Node) → Shows img f m → b ≡ kept m
 
-pub record Sifts (o : OptionNode) (drops : Bool) (r : OptionNode) : Type 0 where
-  pub makes : (img : List ℕ) (m : Option M.Node) → ShowsIf img o m → ShowsIf img r (keptIf drops m)
+pub record Stays (f : Folded) (drops b : Bool) : Type 0 where
+  pub says : (img : List ℕ) (m : M.Node) → Shows img f m → keptIf drops (some m) ≡ cond b (some m) none
 
 abbrev pub countIf : Option M.Node → ℕ
 countIf none = 0
@@ -52,6 +53,15 @@ rowBytes i (some m) = inode .write i ++ node .write m
 unfoldable pub nodesBytes : List (ℕ × M.Node) → List ℕ
 nodesBytes [] = []
 nodesBytes (e ∷ l) = (inode .write (e .0) ++ node .write (e .1)) ++ nodesBytes l
+
+-- one node, or none, after those so far
+pub record PutsRow (old : List ℕ) (so-far : Nodes) (i : ℕ) (o : Option M.Node) (r : Nodes) (new : List ℕ) : Type 0 where
+  pub puts : Put old (so-far .end) (rowBytes i o) (r .end) new
+  pub counts : r .count ≡ so-far .count + countIf o
+
+pub record PutsNodes (old : List ℕ) (at : ℕ) (l : List (ℕ × M.Node)) (r : Nodes) (new : List ℕ) : Type 0 where
+  pub puts : Put old at (nodesBytes l) (r .end) new
+  pub counts : r .count ≡ length l
 
 -- "Every list has its count first"
 abbrev pub baseBytes : Bool → List (ℕ × Pieces) → List ℕ

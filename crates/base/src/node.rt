@@ -1,21 +1,20 @@
 // The nodes that a walk over the base and layers gives, each stack folded, one after the other by rising inode.
 ghost use mathlib.Core.List.{List};
 ghost use mathlib.Core.Path.{_≡_};
-ghost use Prim.Native.Nat.{ℕ};
-ghost use lib.ListN.{length};
-ghost use Rattle.wire.specs.Put.{Put};
+ghost use Prim.Native.Nat.{ℕ, _<_};
+ghost use Rattle.wire.specs.Number.{edge};
 ghost use Rattle.image.specs.Meaning.{kindOf};
 ghost use Rattle.rules.specs.Queue.{isDirectory};
 ghost use Rattle.nodes.specs.Nodes.{bodyMeant};
 ghost use Rattle.stack.specs.Stacks.{Stacked};
 ghost use Rattle.fold.specs.FoldedNodes.{foldedIn};
-ghost use Rattle.walk.specs.Walks.{Ready, stacksLeft};
-ghost use Rattle.base.specs.Nodes.{Keeps, Sifts, keptIf, countIf, rowBytes, nodesOf, nodesBytes, baseBytes, Few};
+ghost use Rattle.walk.specs.Walks.{stacksLeft};
+ghost use Rattle.base.specs.Nodes.{Keeps, Stays, keptIf, PutsRow, nodesOf, PutsNodes, Few};
+use fold::folded::Folded;
+use fold::folded::OptionFolded;
 use fold::folded::folded_node;
 use fold::folded::put_folded;
-use nodes::node::Node;
 use nodes::node::NodeKind;
-use stack::stack::OptionNode;
 use survey::batch::InodeLayerStack;
 use walk::walk::Walk;
 use walk::walk::next_stack;
@@ -31,9 +30,10 @@ fn is_directory(kind: NodeKind) -> bool
 }
 
 // Whether a snapshot keeps the node: it drops non-directories with 0 links.
-fn is_kept(node: Node) -> bool
-    ensures { λ r. ⌜ Keeps node r ⌝ }
+fn is_kept(folded: Folded) -> bool
+    ensures { λ r. ⌜ Keeps folded r ⌝ }
 {
+    let node = folded.node;
     let meta = node.meta;
     let kind = node.kind;
     if meta.nlink != 0 {
@@ -42,93 +42,64 @@ fn is_kept(node: Node) -> bool
     is_directory(kind)
 }
 
-// The node, if there is one; and, where some are dropped, if it is kept.
-fn sifted(node: OptionNode, drops: bool) -> OptionNode
-    ensures { λ r. ⌜ Sifts node drops r ⌝ }
+// Whether the node stays, where some are dropped and where none are.
+fn stays(folded: Folded, drops: bool) -> bool
+    ensures { λ r. ⌜ Stays folded drops r ⌝ }
 {
     if drops {
-        let OptionNode::Some(found) = node else {
-            return OptionNode::None;
-        };
-        if is_kept(found) {
-            return node;
-        }
-        return OptionNode::None;
+        return is_kept(folded);
     }
-    node
+    true
 }
 
-// Writes the inode and the node that fold makes of its stack, if there is one.
+// Nodes that were written: the place after them, and how many they are.
+pub struct Nodes {
+    pub end: usize,
+    pub count: u64,
+}
+
+// Writes the inode and the node that fold makes of its stack, if there is one and it stays.
 fn put_node_of(
     buf: &mut [u8],
-    at: usize,
+    so_far: Nodes,
     img: &[u8],
     inode: u64,
     stack: InodeLayerStack,
     drops: bool,
-) -> usize
-    requires { ⌜ Stacked (now img) stack ⌝ }
-    ensures { λ r. ⌜ Put (now (buf .entry)) at (rowBytes inode (keptIf drops (foldedIn (now (img .entry)) stack))) r (now (buf .exit)) ⌝ }
+) -> Nodes
+    requires { ⌜ Stacked (now img) stack × («so_far» .count < edge) ⌝ }
+    ensures { λ r. ⌜ PutsRow (now (buf .entry)) «so_far» inode (keptIf drops (foldedIn (now (img .entry)) stack)) r (now (buf .exit)) ⌝ }
 {
-    let node = sifted(folded_node(img, stack), drops);
+    let node = folded_node(img, stack);
     match node {
-        OptionNode::Some(found) => {
-            let place = put_number(buf, at, inode);
-            put_folded(buf, place, img, stack, found)
+        OptionFolded::Some(folded) => {
+            if stays(folded, drops) {
+                let place = put_number(buf, so_far.end, inode);
+                let end = put_folded(buf, place, img, stack, folded);
+                return Nodes {
+                    end,
+                    count: so_far.count + 1,
+                };
+            }
+            so_far
         }
-        OptionNode::None => at,
-    }
-}
-
-// 1 if there is one, else 0.
-fn count_node(img: &[u8], stack: InodeLayerStack, drops: bool) -> u64
-    requires { ⌜ Stacked (now img) stack ⌝ }
-    ensures { λ r. ⌜ r ≡ countIf (keptIf drops (foldedIn (now (img .entry)) stack)) ⌝ }
-{
-    let node = sifted(folded_node(img, stack), drops);
-    match node {
-        OptionNode::Some(_) => 1,
-        OptionNode::None => 0,
+        OptionFolded::None => so_far,
     }
 }
 
 // Writes the nodes of the stacks that the walk has left.
-fn put_nodes(buf: &mut [u8], at: usize, img: &[u8], walk: Walk, drops: bool) -> usize
-    requires { ⌜ Ready (now img) walk ⌝ }
-    ensures { λ r. ⌜ Put (now (buf .entry)) at (nodesBytes (nodesOf drops (stacksLeft (now (img .entry)) walk))) r (now (buf .exit)) ⌝ }
+pub fn put_nodes(buf: &mut [u8], at: usize, img: &[u8], walk: Walk, drops: bool) -> Nodes
+    requires { ⌜ Few (now img) walk ⌝ }
+    ensures { λ r. ⌜ PutsNodes (now (buf .entry)) at (nodesOf drops (stacksLeft (now (img .entry)) walk)) r (now (buf .exit)) ⌝ }
 {
-    let mut step = next_stack(img, walk);
-    let mut next = at;
+    let mut runs = walk.runs;
+    let count = walk.count;
+    let mut nodes = Nodes { end: at, count: 0 };
+    let mut step = next_stack(img, &mut runs, count);
     while step.more {
         let stack = step.stack;
-        next = put_node_of(buf, next, img, step.inode, stack, drops);
-        let rest = step.rest;
-        step = next_stack(img, rest);
+        nodes = put_node_of(buf, nodes, img, step.inode, stack, drops);
+        step = next_stack(img, &mut runs, count);
     }
-    next
-}
-
-// How many they are.
-fn count_nodes(img: &[u8], walk: Walk, drops: bool) -> u64
-    requires { ⌜ Few (now img) walk ⌝ }
-    ensures { λ r. ⌜ r ≡ length (nodesOf drops (stacksLeft (now (img .entry)) walk)) ⌝ }
-{
-    let mut step = next_stack(img, walk);
-    let mut count: u64 = 0;
-    while step.more {
-        let stack = step.stack;
-        count += count_node(img, stack, drops);
-        let rest = step.rest;
-        step = next_stack(img, rest);
-    }
-    count
-}
-
-// Writes the new base: the nodes, their count first.
-pub fn put_base(buf: &mut [u8], at: usize, img: &[u8], walk: Walk, drops: bool) -> usize
-    requires { ⌜ Few (now img) walk ⌝ }
-    ensures { λ r. ⌜ Put (now (buf .entry)) at (baseBytes drops (stacksLeft (now (img .entry)) walk)) r (now (buf .exit)) ⌝ }
-{
-    let next = put_number(buf, at, count_nodes(img, walk, drops));
-    put_nodes(buf, next, img, walk, drops)
+    nodes
 }

@@ -4,13 +4,15 @@ use mathlib.Core.Path.{_≡_, refl, sym, ap, _∙_}
 use mathlib.Core.Bool.{Bool, true, false, cond}
 use mathlib.Core.Option.{none}
 use mathlib.Core.List.{List, [], _∷_, _++_, append-nil}
-use Prim.Native.Nat.{ℕ, _+_}
+use Prim.Native.Nat.{ℕ, _+_, min}
 use native.Mathlib.Omega.{arith}
-use lib.ListN.{length, take}
-use lib.Seq.{take-length}
+use lib.ListN.{length, take, length-append}
+use lib.Seq.{sets, take-length}
 use Rattle.wire.specs.declared.cursor.Cursor.{Cursor}
 use Rattle.wire.specs.declared.cursor.Cursor.the-variants.{At}
-use Rattle.wire.specs.Number.{numberBytes, number-read, numberTo}
+use Rattle.wire.specs.Number.{edge, numberBytes, number-read, numberTo}
+use Rattle.wire.specs.Put.{Put}
+use Rattle.wire.proofs.Puts.{put-append}
 use Rattle.wire.specs.Reading.{Reads, Answers}
 use Rattle.wire.specs.Maps.{empty}
 use Rattle.image.specs.Meaning.{Batch, Layer, Store}
@@ -41,11 +43,36 @@ use Rattle.change.proofs.Sections.{span-part, span-front, span-both, span-reads
 use Rattle.change.proofs.Finishing.{changes-refused, changes-made}
 use Rattle.change.proofs.Batches.{queueBytes, batches-bytes}
 use Rattle.walk.specs.Opens.{OpensLayers, Over}
+use Rattle.walk.specs.Walks.{stacksLeft}
+use Rattle.walk.specs.declared.walk.Walk.{Walk}
 use Rattle.walk.specs.declared.open.Layers.{Layers}
-use Rattle.base.specs.Nodes.{Few}
-use Rattle.flush.specs.Flushes.{flushed}
+use Rattle.base.specs.Nodes.{nodesOf, PutsNodes, Few}
+use Rattle.base.specs.declared.node.Nodes.{Nodes}
+use Rattle.flush.specs.Flushes.{dropsOf, restBytes, flushed}
+use Rattle.flush.specs.declared.write.Flush.{Flush}
 use Rattle.flush.specs.declared.write.Flush.the-variants as F
 use Rattle.base.proofs.Bases.{base-written, walk-few, layers-count}
+
+-- ---- the new image
+
+-- its nodes were counted and measured
+module _ (img : List ℕ) (w : Walk) (f : Flush) {d : Bool} (e : d ≡ dropsOf f) {l m : List ℕ} {n : Nodes} (a : PutsNodes l 0 (nodesOf d (stacksLeft img w)) n m) where
+  -- the rest measured
+  pub image-measured : {l₁ l₂ l₃ : List ℕ} {q p r : ℕ} → Put l₁ 0 (numberBytes (n .count)) q l₂ → p ≡ min (q + n .end) edge → Put l₂ p (restBytes img f) r l₃
+      → Put l 0 (flushed img w f) r (sets l 0 (flushed img w f))
+  image-measured b k c = record {
+    to =
+        let first = rw (a .counts, e) at (b .to) in
+        let nodes = rw e at (a .puts .to) in
+        simp length-append (omega (arith, first, nodes, k, c .to));
+    is = refl;
+    short = a .puts .short;
+  }
+
+  -- written
+  pub image-written : {l₁ l₂ l₃ l₄ : List ℕ} {q r : ℕ} {o : Nodes} → Put l₁ 0 (numberBytes (n .count)) q l₂ → PutsNodes l₂ q (nodesOf d (stacksLeft img w)) o l₃ → Put l₃ (o .end) (restBytes img f) r l₄
+      → Put l₁ 0 (flushed img w f) r l₄
+  image-written b c t = rw (← e) (put-append (put-append (rw (a .counts) at b) (c .puts)) t)
 
 -- ---- how a snapshot ends
 

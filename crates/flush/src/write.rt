@@ -1,16 +1,17 @@
-// Writers of images with another base. Each answers the place after the image; with an empty buffer it measures.
+// The writer of images with another base.
 ghost use lib.ListN.{length};
 ghost use mathlib.Core.Path.{_≡_};
 ghost use Rattle.wire.specs.Put.{Put};
 ghost use Rattle.change.specs.Changed.{Changes, ifFits};
 ghost use Rattle.base.specs.Nodes.{Few};
 ghost use Rattle.flush.specs.Flushes.{dropsOf, emptied, restBytes, flushed};
-use base::node::put_base;
+use base::node::put_nodes;
 use change::answer::ChangeAnswer;
 use change::answer::lacks_room;
 use change::copy::put_between;
 use walk::walk::Walk;
 use wire::number::put_number;
+use wire::put::advance;
 use writers::tail::Tail;
 use writers::tail::put_tail;
 
@@ -57,25 +58,21 @@ fn put_rest(buf: &mut [u8], at: usize, img: &[u8], flush: Flush) -> usize
     }
 }
 
-// The new image.
-fn put_flushed(buf: &mut [u8], at: usize, img: &[u8], walk: Walk, flush: Flush) -> usize
-    requires { ⌜ Few (now img) walk ⌝ }
-    ensures { λ r. ⌜ Put (now (buf .entry)) at (flushed (now (img .entry)) walk flush) r (now (buf .exit)) ⌝ }
-{
-    let next = put_base(buf, at, img, walk, drops_of(flush));
-    put_rest(buf, next, img, flush)
-}
-
 // Measures the new image, and writes it to the target if there is room.
 pub fn write_flushed(img: &[u8], walk: Walk, flush: Flush, target: &mut [u8]) -> ChangeAnswer
     requires { ⌜ Few (now img) walk ⌝ }
     ensures { λ r. ⌜ Changes (ifFits (flushed (now (img .entry)) walk flush) (length (now (target .entry)))) (now (target .entry)) r (now (target .exit)) ⌝ }
 {
     let mut none = [0u8; 0];
-    let size = put_flushed(&mut none, 0, img, walk, flush);
+    let drops = drops_of(flush);
+    let nodes = put_nodes(&mut none, 0, img, walk, drops);
+    let count = put_number(&mut none, 0, nodes.count);
+    let size = put_rest(&mut none, advance(count, nodes.end), img, flush);
     if lacks_room(size, target.len()) {
         return ChangeAnswer::Refused(5);
     }
-    let end = put_flushed(target, 0, img, walk, flush);
+    let start = put_number(target, 0, nodes.count);
+    let base = put_nodes(target, start, img, walk, drops);
+    let end = put_rest(target, base.end, img, flush);
     ChangeAnswer::Length(end)
 }

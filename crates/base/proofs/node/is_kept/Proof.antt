@@ -14,7 +14,7 @@ returns c = kept-links (c .if1 .taken)
 is-directory-requires : tie.Need-is-directory-requires
 is-directory-requires c κs = search needs
 
--- src/node.rt:34:1
+-- src/node.rt:33:1
 returns-2 : tie.Need-returns-2
 returns-2 c = kept-kind (c .before .if1 .left) (c .is-directory .ensures)
 
