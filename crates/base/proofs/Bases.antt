@@ -34,6 +34,7 @@ use Rattle.walk.specs.Opens.{nodeRows, recordRows, layersOn, Over}
 use Rattle.walk.specs.declared.walk.Walk.{Walk}
 use Rattle.walk.proofs.Stacked.{over-stacks, over-rising}
 use Rattle.base.specs.Nodes.{keptIf, nodesOf, nodesBytes, baseBytes, Few}
+use Rattle.base.proofs.Sifting.{none-kept}
 
 -- ---- a row that may be there, in rising rows
 
@@ -73,17 +74,10 @@ module _ (d : Bool) where
   nodes-rise [] r = tt
   nodes-rise (e ∷ l) r = rising-row byNumber (e .0) (keptIf d (folded usual (e .1 .0) (e .1 .1))) (nodesOf d l) (nodes-under (e .0) l (r .0)) (nodes-rise l (r .1))
 
-  none-kept : keptIf d none ≡ none
-  none-kept = go d
-    where
-      go : (d : Bool) → keptIf d none ≡ none
-      go true = refl
-      go false = refl
-
   -- looked up
   nodes-get : (k : ℕ) (l : List (ℕ × Pieces)) → Rising byNumber l → lookup byNumber k (nodesOf d l) ≡ nodeOf (orNothing (lookup byNumber k l))
   unfolding nodesOf lookup nodeOf folded
-  nodes-get k [] r = sym none-kept
+  nodes-get k [] r = sym (none-kept d)
   nodes-get k (e ∷ l) r =
       lookup-row byNumber k (e .0) (keptIf d (folded usual (e .1 .0) (e .1 .1))) (nodesOf d l) (nodes-under (e .0) l (r .0)) ∙ go (byNumber .cmp k (e .0)) (nodes-get k l (r .1))
     where

@@ -70,7 +70,7 @@ module _ {f : Folded} {d : Bool} where
 
 -- ---- the row of a stack
 
-none-kept : (d : Bool) → keptIf d none ≡ none
+pub none-kept : (d : Bool) → keptIf d none ≡ none
 none-kept true = refl
 none-kept false = refl
 
