@@ -4,29 +4,40 @@ use mathlib.Core.Path.{_≡_, refl, sym, ap, _∙_}
 use mathlib.Core.Option.{Option, none, some}
 use mathlib.Core.Bool.{Bool, true, false, cond}
 use mathlib.Core.List.{List, _++_}
-use Prim.Native.Nat.{ℕ, _+_, _≤_, _<_}
+use Prim.Native.Nat.{ℕ, _+_, _-_, _≤_, _<_}
 use native.Mathlib.Omega.{arith}
 use mir.Syntax.{w64}
 use mir.Val.{Fits}
 use denote.Enum.Declared.{tagOf}
 use types.Run.{OneOf}
-use lib.ListN.{length}
+use lib.ListN.{length, drop, length-append, length-drop}
 use borrow.Author.Tests.{ne-eqb}
-use Rattle.wire.specs.Number.{edge}
+use Rattle.wire.specs.declared.cursor.Cursor.{Cursor}
+use Rattle.wire.specs.declared.cursor.Cursor.the-variants.{At, Stop}
+use Rattle.wire.specs.Number.{edge, number-one}
+use Rattle.wire.specs.Parse.{never-got}
+use Rattle.wire.specs.Reading.{Reads, placeAt}
 use Rattle.wire.specs.Maps.{sift}
 use Rattle.wire.specs.Put.{Put}
 use Rattle.wire.proofs.Puts.{put-append, put-length}
 use Rattle.image.specs.Meaning as M
-use Rattle.image.specs.Meaning.{kindOf}
+use Rattle.image.specs.Meaning.{kindNumber, kindOf}
 use Rattle.image.specs.FieldLayout.{inode}
+use Rattle.image.specs.KindLayout.{kind}
+use Rattle.image.specs.NodeLayout.{node}
+use Rattle.passes.specs.declared.inode.Place.the-variants as P
 use Rattle.survey.specs.declared.batch.InodeLayerStack.{InodeLayerStack}
 use Rattle.rules.specs.Queue.{isDirectory, kept}
-use Rattle.nodes.specs.Nodes.{bodyMeant}
+use Rattle.rules.specs.PlacedStacks.{recordsOn, nodeAt, unplacedNode}
+use Rattle.rules.proofs.Folded.{folded}
+use Rattle.nodes.specs.Nodes.{bodyMeant, nodeMeant, ReadsNode}
+use Rattle.nodes.specs.declared.node.Node.{Node}
 use Rattle.nodes.specs.declared.node.NodeKind.{NodeKind}
 use Rattle.nodes.proofs.node.NodeKind as kinds
 use Rattle.deltas.proofs.Others.{one-kind, notDirectory}
-use Rattle.writers.proofs.Writing.{put-nothing}
-use Rattle.stack.specs.Stacks.{Stacked}
+use Rattle.writers.proofs.Writing.{put-nothing, part-written}
+use Rattle.stack.specs.Stacks.{Stacked, NodeRead}
+use Rattle.change.specs.Sections.{between}
 use Rattle.merge.specs.Pile.{row}
 use Rattle.fold.specs.FoldedNodes.{Shows, ShowsIf, foldedIn, FoldsTo, bytesIf}
 use Rattle.fold.specs.declared.folded.Folded.{Folded}
@@ -36,7 +47,7 @@ use Rattle.fold.proofs.Folding.{shows-kind}
 use Rattle.walk.specs.Walks.{Pieces, Ready, stacksLeft, stacksIf, piecesIn, Steps}
 use Rattle.walk.specs.declared.walk.Walk.{Walk}
 use Rattle.walk.specs.declared.walk.Step.{Step}
-use Rattle.base.specs.Nodes.{keptIf, Keeps, Stays, countIf, nodesOf, rowBytes, nodesBytes, PutsRow, PutsNodes, Few}
+use Rattle.base.specs.Nodes.{keptIf, Like, Keeps, Stays, countIf, nodesOf, rowBytes, nodesBytes, PutsRow, PutsNodes, Few}
 use Rattle.base.specs.declared.node.Nodes.{Nodes}
 
 -- ---- a node
@@ -44,15 +55,15 @@ use Rattle.base.specs.declared.node.Nodes.{Nodes}
 pub other-directory : (img : List ℕ) (k : NodeKind) → OneOf notDirectory (tagOf kinds.the-type k) → false ≡ isDirectory (kindOf (bodyMeant img k))
 other-directory img = one-kind notDirectory (λ k. false ≡ isDirectory (kindOf (bodyMeant img k))) tt (λ size. refl) (λ target. refl) refl (λ rdev. refl) (λ rdev. refl) refl
 
-module _ {f : Folded} where
-  links-are : {img : List ℕ} {m : M.Node} → Shows img f m → m .meta .links ≡ f .node .meta .nlink
-  links-are h = ap (λ (x : M.Node). x .meta .links) (sym (h .is))
+module _ {n : Node} where
+  pub kept-links : (n .meta .nlink ≡ 0 → ⊥) → Keeps n true
+  kept-links z = record { says = λ img m h. rw (h .links, ne-eqb (n .meta .nlink) 0 z) }
 
-  pub kept-links : (f .node .meta .nlink ≡ 0 → ⊥) → Keeps f true
-  kept-links z = record { says = λ img m h. rw (links-are h, ne-eqb (f .node .meta .nlink) 0 z) }
+  pub kept-kind : n .meta .nlink ≡ 0 → {b : Bool} → ((img : List ℕ) → b ≡ isDirectory (kindOf (bodyMeant img (n .kind)))) → Keeps n b
+  kept-kind z k = record { says = λ img m h. rw (h .links, z, ← (h .kind)) (k img) }
 
-  pub kept-kind : f .node .meta .nlink ≡ 0 → {b : Bool} → ((img : List ℕ) → b ≡ isDirectory (kindOf (bodyMeant img (f .node .kind)))) → Keeps f b
-  kept-kind z k = record { says = λ img m h. rw (links-are h, z, ← (shows-kind h)) (k img) }
+shows-like : {img : List ℕ} {f : Folded} {m : M.Node} → Shows img f m → Like img (f .node) m
+shows-like h = record { links = ap (λ (x : M.Node). x .meta .links) (sym (h .is)); kind = shows-kind h }
 
 sift-by : (b : Bool) (m : M.Node) → b ≡ kept m → sift kept (some m) ≡ cond b (some m) none
 sift-by b m e = go (kept m) ∙ ap (λ (x : Bool). cond x (some m) none) (sym e)
@@ -61,11 +72,11 @@ sift-by b m e = go (kept m) ∙ ap (λ (x : Bool). cond x (some m) none) (sym e)
     go true = refl
     go false = refl
 
-module _ {f : Folded} {d : Bool} where
-  pub stays-kept : d ≡ true → {b : Bool} → Keeps f b → Stays f d b
+module _ {n : Node} {d : Bool} where
+  pub stays-kept : d ≡ true → {b : Bool} → Keeps n b → Stays n d b
   stays-kept e {b} k = record { says = λ img m h. rw e (sift-by b m (k .says img m h)) }
 
-  pub stays-all : d ≡ false → Stays f d true
+  pub stays-all : d ≡ false → Stays n d true
   stays-all e = record { says = λ img m h. rw e }
 
 -- ---- the row of a stack
@@ -86,18 +97,18 @@ module _ (img : List ℕ) (s : InodeLayerStack) {o : OptionFolded} (g : ShowsIf 
         go none q h = absurd h
         go (some m) q h = (m, q, h)
 
-    module _ {d b : Bool} (k : Stays f d b) (i : ℕ) {old : List ℕ} (n : Nodes) where
+    module _ {d b : Bool} (k : Stays (f .node) d b) (i : ℕ) {old : List ℕ} (n : Nodes) where
       pub row-put : b ≡ true → {mid new : List ℕ} {q p : ℕ} → Put old (n .end) (inode .write i) q mid → Put mid q (bytesIf (foldedIn img s)) p new
           → PutsRow old n i (keptIf d (foldedIn img s)) (record { end = p; count = n .count + 1 }) new
       row-put z u v =
           let a = there in
-          let w : keptIf d (some (a .0)) ≡ some (a .0) = k .says img (a .0) (a .2) ∙ rw z in
+          let w : keptIf d (some (a .0)) ≡ some (a .0) = k .says img (a .0) (shows-like (a .2)) ∙ rw z in
           rw (a .1, w) (record { puts = put-append u (rw (a .1) at v); counts = refl })
 
       pub row-dropped : b ≡ false → length old < edge → Fits w64 (n .end) → PutsRow old n i (keptIf d (foldedIn img s)) n old
       row-dropped z h l =
           let a = there in
-          let w : keptIf d (some (a .0)) ≡ none = k .says img (a .0) (a .2) ∙ rw z in
+          let w : keptIf d (some (a .0)) ≡ none = k .says img (a .0) (shows-like (a .2)) ∙ rw z in
           rw (a .1, w) (record { puts = put-nothing h l; counts = omega arith })
 
   pub row-none : o ≡ O.None → (d : Bool) (i : ℕ) (n : Nodes) {old : List ℕ} → length old < edge → Fits w64 (n .end) → PutsRow old n i (keptIf d (foldedIn img s)) n old
@@ -106,6 +117,46 @@ module _ (img : List ℕ) (s : InodeLayerStack) {o : OptionFolded} (g : ShowsIf 
       go : (x : Option M.Node) → ShowsIf img O.None x → PutsRow old n i (keptIf d x) n old
       go none w = rw (none-kept d) (record { puts = put-nothing h l; counts = omega arith })
       go (some m) w = absurd w
+
+-- ---- a base node that no record is over
+
+pub no-records : (img : List ℕ) (s : InodeLayerStack) → s .count ≡ 0 → {p : ℕ} → s .base ≡ P.At p → foldedIn img s ≡ unplacedNode (nodeAt img (some p))
+unfolding recordsOn folded
+no-records img s z e = rw (z, e)
+
+node-long : (m : M.Node) → 1 ≤ length (node .write m)
+unfolding node kind
+node-long m = simp length-append (omega (arith, number-one (kindNumber (kindOf (m .body)))))
+
+module _ {img : List ℕ} {p : ℕ} {n : Node} {next : Cursor} (a : NodeRead img (some p)) (h : ReadsNode img (At p) n next) where
+  -- it was read whole, and is copied so
+  whole : (q : ℕ) × (next ≡ At q) × Reads img (node .read) (At p) (nodeMeant img n) (At q)
+  whole = go next refl (h .reads)
+    where
+      go : (c : Cursor) → next ≡ c → Reads img (node .read) (At p) (nodeMeant img n) c → (q : ℕ) × (next ≡ At q) × Reads img (node .read) (At p) (nodeMeant img n) (At q)
+      go (Stop f) e r = never-got (sym (r .same) ∙ a .2)
+      go (At q) e r = (q, e, r)
+
+  base-bytes : between img p (placeAt next) ≡ node .write (nodeMeant img n)
+  base-bytes =
+      let r = whole .2 in
+      let b = node .forth (drop p img) (nodeMeant img n) (drop (whole .0) img) (r .same) .0 in
+      let l : length img - p ≡ length (node .write (nodeMeant img n)) + (length img - whole .0) = rw (← length-drop, ← length-drop, ← length-append) (ap length b) in
+      rw (whole .1) (part-written node (omega (arith, l, node-long (nodeMeant img n))) r)
+
+  base-is : unplacedNode (nodeAt img (some p)) ≡ some (nodeMeant img n)
+  base-is = rw (whole .2 .same)
+
+  module _ {d b : Bool} (k : Stays n d b) where
+    stays-is : keptIf d (some (nodeMeant img n)) ≡ cond b (some (nodeMeant img n)) none
+    stays-is = k .says img (nodeMeant img n) (record { links = refl; kind = refl })
+
+    pub base-put : (i : ℕ) (o : Nodes) → b ≡ true → {old mid new : List ℕ} {q e r : ℕ} → Put old (o .end) (inode .write i) q mid → e ≡ placeAt next → Put mid q (between img p e) r new
+        → PutsRow old o i (keptIf d (unplacedNode (nodeAt img (some p)))) (record { end = r; count = o .count + 1 }) new
+    base-put i o z u e v = rw (base-is, stays-is, z) (record { puts = put-append u (rw (e, base-bytes) at v); counts = refl })
+
+    pub base-dropped : (i : ℕ) (o : Nodes) → b ≡ false → {old : List ℕ} → length old < edge → Fits w64 (o .end) → PutsRow old o i (keptIf d (unplacedNode (nodeAt img (some p)))) o old
+    base-dropped i o z w l = rw (base-is, stays-is, z) (record { puts = put-nothing w l; counts = omega arith })
 
 -- ---- the rows of a walk
 

@@ -9,14 +9,15 @@ use Rattle.wire.specs.Maps.{sift}
 use Rattle.wire.specs.Number.{edge, numberBytes}
 use Rattle.wire.specs.Put.{Put}
 use Rattle.image.specs.Meaning as M
+use Rattle.image.specs.Meaning.{kindOf}
 use Rattle.image.specs.FieldLayout.{inode}
 use Rattle.image.specs.NodeLayout.{node}
 use Rattle.rules.specs.Initial.{usual}
 use Rattle.rules.specs.Queue.{kept}
 use Rattle.rules.proofs.Folded.{folded}
+use Rattle.nodes.specs.Nodes.{bodyMeant}
+use Rattle.nodes.specs.declared.node.Node.{Node}
 use Rattle.merge.specs.Pile.{row}
-use Rattle.fold.specs.FoldedNodes.{Shows}
-use Rattle.fold.specs.declared.folded.Folded.{Folded}
 use Rattle.walk.specs.Walks.{Pieces, Ready, stacksLeft}
 use Rattle.walk.specs.declared.walk.Walk.{Walk}
 use Rattle.base.specs.declared.node.Nodes.{Nodes}
@@ -28,11 +29,16 @@ abbrev pub keptIf : Bool → Option M.Node → Option M.Node
 keptIf true o = sift kept o
 keptIf false o = o
 
-pub record Keeps (f : Folded) (b : Bool) : Type 0 where
-  pub says : (img : List ℕ) (m : M.Node) → Shows img f m → b ≡ kept m
+-- links and kind are those of a node by value
+pub record Like (img : List ℕ) (n : Node) (m : M.Node) : Type 0 where
+  pub links : m .meta .links ≡ n .meta .nlink
+  pub kind : kindOf (bodyMeant img (n .kind)) ≡ kindOf (m .body)
 
-pub record Stays (f : Folded) (drops b : Bool) : Type 0 where
-  pub says : (img : List ℕ) (m : M.Node) → Shows img f m → keptIf drops (some m) ≡ cond b (some m) none
+pub record Keeps (n : Node) (b : Bool) : Type 0 where
+  pub says : (img : List ℕ) (m : M.Node) → Like img n m → b ≡ kept m
+
+pub record Stays (n : Node) (drops b : Bool) : Type 0 where
+  pub says : (img : List ℕ) (m : M.Node) → Like img n m → keptIf drops (some m) ≡ cond b (some m) none
 
 abbrev pub countIf : Option M.Node → ℕ
 countIf none = 0

@@ -1,23 +1,30 @@
 // The nodes that a walk over the base and layers gives, each stack folded, one after the other by rising inode.
 ghost use mathlib.Core.List.{List};
+ghost use mathlib.Core.Option.{some};
 ghost use mathlib.Core.Path.{_≡_};
 ghost use Prim.Native.Nat.{ℕ, _<_};
 ghost use Rattle.wire.specs.Number.{edge};
 ghost use Rattle.image.specs.Meaning.{kindOf};
 ghost use Rattle.rules.specs.Queue.{isDirectory};
 ghost use Rattle.nodes.specs.Nodes.{bodyMeant};
-ghost use Rattle.stack.specs.Stacks.{Stacked};
+ghost use Rattle.rules.specs.PlacedStacks.{nodeAt, unplacedNode};
+ghost use Rattle.stack.specs.Stacks.{Stacked, NodeRead};
 ghost use Rattle.fold.specs.FoldedNodes.{foldedIn};
 ghost use Rattle.walk.specs.Walks.{stacksLeft};
 ghost use Rattle.base.specs.Nodes.{Keeps, Stays, keptIf, PutsRow, nodesOf, PutsNodes, Few};
-use fold::folded::Folded;
+use change::copy::put_between;
 use fold::folded::OptionFolded;
 use fold::folded::folded_node;
 use fold::folded::put_folded;
+use nodes::node::Node;
 use nodes::node::NodeKind;
+use nodes::node::read_node;
+use passes::inode::Place;
 use survey::batch::InodeLayerStack;
 use walk::walk::Walk;
 use walk::walk::next_stack;
+use wire::cursor::Cursor;
+use wire::cursor::place_at;
 use wire::number::put_number;
 
 fn is_directory(kind: NodeKind) -> bool
@@ -30,10 +37,9 @@ fn is_directory(kind: NodeKind) -> bool
 }
 
 // Whether a snapshot keeps the node: it drops non-directories with 0 links.
-fn is_kept(folded: Folded) -> bool
-    ensures { λ r. ⌜ Keeps folded r ⌝ }
+fn is_kept(node: Node) -> bool
+    ensures { λ r. ⌜ Keeps node r ⌝ }
 {
-    let node = folded.node;
     let meta = node.meta;
     let kind = node.kind;
     if meta.nlink != 0 {
@@ -43,11 +49,11 @@ fn is_kept(folded: Folded) -> bool
 }
 
 // Whether the node stays, where some are dropped and where none are.
-fn stays(folded: Folded, drops: bool) -> bool
-    ensures { λ r. ⌜ Stays folded drops r ⌝ }
+fn stays(node: Node, drops: bool) -> bool
+    ensures { λ r. ⌜ Stays node drops r ⌝ }
 {
     if drops {
-        return is_kept(folded);
+        return is_kept(node);
     }
     true
 }
@@ -58,7 +64,60 @@ pub struct Nodes {
     pub count: u64,
 }
 
+// Copies a node of the base with its inode, if it stays.
+fn put_base_node(
+    buf: &mut [u8],
+    so_far: Nodes,
+    img: &[u8],
+    inode: u64,
+    place: usize,
+    drops: bool,
+) -> Nodes
+    requires { ⌜ NodeRead (now img) (some place) × («so_far» .count < edge) ⌝ }
+    ensures { λ r. ⌜ PutsRow (now (buf .entry)) «so_far» inode (keptIf drops (unplacedNode (nodeAt (now (img .entry)) (some place)))) r (now (buf .exit)) ⌝ }
+{
+    let read = read_node(img, Cursor::At(place));
+    let node = read.node;
+    let next = read.next;
+    if stays(node, drops) {
+        let first = put_number(buf, so_far.end, inode);
+        let end = put_between(buf, first, img, place, place_at(next));
+        return Nodes {
+            end,
+            count: so_far.count + 1,
+        };
+    }
+    so_far
+}
+
 // Writes the inode and the node that fold makes of its stack, if there is one and it stays.
+fn put_folded_node(
+    buf: &mut [u8],
+    so_far: Nodes,
+    img: &[u8],
+    inode: u64,
+    stack: InodeLayerStack,
+    drops: bool,
+) -> Nodes
+    requires { ⌜ Stacked (now img) stack × («so_far» .count < edge) ⌝ }
+    ensures { λ r. ⌜ PutsRow (now (buf .entry)) «so_far» inode (keptIf drops (foldedIn (now (img .entry)) stack)) r (now (buf .exit)) ⌝ }
+{
+    let OptionFolded::Some(folded) = folded_node(img, stack) else {
+        return so_far;
+    };
+    let node = folded.node;
+    if stays(node, drops) {
+        let place = put_number(buf, so_far.end, inode);
+        let end = put_folded(buf, place, img, stack, folded);
+        return Nodes {
+            end,
+            count: so_far.count + 1,
+        };
+    }
+    so_far
+}
+
+// The same. A base node that no record is over is copied.
 fn put_node_of(
     buf: &mut [u8],
     so_far: Nodes,
@@ -70,21 +129,13 @@ fn put_node_of(
     requires { ⌜ Stacked (now img) stack × («so_far» .count < edge) ⌝ }
     ensures { λ r. ⌜ PutsRow (now (buf .entry)) «so_far» inode (keptIf drops (foldedIn (now (img .entry)) stack)) r (now (buf .exit)) ⌝ }
 {
-    let node = folded_node(img, stack);
-    match node {
-        OptionFolded::Some(folded) => {
-            if stays(folded, drops) {
-                let place = put_number(buf, so_far.end, inode);
-                let end = put_folded(buf, place, img, stack, folded);
-                return Nodes {
-                    end,
-                    count: so_far.count + 1,
-                };
-            }
-            so_far
+    let base = stack.base;
+    if stack.count == 0 {
+        if let Place::At(place) = base {
+            return put_base_node(buf, so_far, img, inode, place, drops);
         }
-        OptionFolded::None => so_far,
     }
+    put_folded_node(buf, so_far, img, inode, stack, drops)
 }
 
 // Writes the nodes of the stacks that the walk has left.

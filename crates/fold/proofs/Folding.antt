@@ -59,7 +59,7 @@ use Rattle.stack.specs.declared.stack.OptionNode.the-variants as B
 use Rattle.stack.proofs.Walks.{records-more}
 use Rattle.apply.specs.Folded.{bodyWith, nodeWith, onAttributes, onEntries, FirstNode, AppliesNode}
 use Rattle.fold.specs.Lists.{attributesOf, entriesOf}
-use Rattle.fold.specs.FoldedNodes.{Comes, AttributesAfter, EntriesAfter, entriesFrom, Shows, ShowsIf, FoldsBase, FoldsDelta, FoldsRecord, foldedIn, FoldsTo, originBytes, bodyWritten, PutsBody, bytesIf, Merged, CopiesNode}
+use Rattle.fold.specs.FoldedNodes.{Comes, AttributesAfter, EntriesAfter, entriesFrom, Shows, ShowsIf, FoldsBase, FoldsDelta, FoldsRecord, foldedIn, FoldsTo, originBytes, bodyWritten, PutsBody, bytesIf, Merged}
 use Rattle.fold.specs.declared.folded.Origin.{Origin}
 use Rattle.fold.specs.declared.folded.Origin.the-variants as From
 use Rattle.fold.specs.declared.folded.Folded.{Folded}
@@ -270,35 +270,3 @@ body-other img es = one-kind notDirectory (λ k. bodyBytes img k ≡ bodyWritten
 pub body-plain : {img : List ℕ} {s : InodeLayerStack} (k : NodeKind) {o : Origin} → OneOf notDirectory (tagOf kinds.the-type k) → {b₀ b₁ : List ℕ} {at r : ℕ} → Put b₀ at (bodyBytes img k) r b₁
     → PutsBody img s k o b₀ at r b₁
 body-plain {img} k n a = record { puts = λ es h. rw (body-other img es k n) at a }
-
--- ---- the base node copied
-
-node-long : (m : M.Node) → 1 ≤ length (node .write m)
-unfolding node kind
-node-long m = simp length-append (omega (arith, number-one (kindNumber (kindOf (m .body)))))
-
-module _ {img : List ℕ} {p : ℕ} {next : Cursor} (h : Ends img (node .read) (At p) next) where
-  node-part : {m : M.Node} {t : List ℕ} → node .read (drop p img) ≡ got m t → (p < placeAt next) × (part img p (placeAt next - p) ≡ node .write m)
-  node-part {m} {t} e = go next (rw e at (h .same)) (h .within)
-    where
-      go : (next : Cursor) → _≡_ {A = Parsed (Unit {0})} (got tt t) (give img tt next) → cursorIn img next → (p < placeAt next) × (part img p (placeAt next - p) ≡ node .write m)
-      go (Stop f) d w = never-got (sym d)
-      go (At q) d w =
-          let z : t ≡ drop q img = cc in
-          let b : drop p img ≡ node .write m ++ drop q img = rw z at (node .forth (drop p img) m t e .0) in
-          let l : length img - p ≡ length (node .write m) + (length img - q) = rw (← length-drop, ← length-drop, ← length-append) (ap length b) in
-          (omega (arith, l, node-long m, w), part-written node (omega (arith, l, node-long m)) (record { same = rw z at e; within = w }))
-
-  pub copied-none : {e : ℕ} → e ≡ placeAt next → e ≤ p → {old : List ℕ} {at r : ℕ} {new : List ℕ} → CopiesNode img p old at r new
-  copied-none d l m t g = absurd (omega (arith, d, node-part g .0))
-
-  pub copied-part : {e : ℕ} → e ≡ placeAt next → {old : List ℕ} {at r : ℕ} {new : List ℕ} → Put old at (part img p (e - p)) r new → CopiesNode img p old at r new
-  copied-part d w m t g = rw (← (node-part g .1), ← d) w
-
--- a stack without records
-pub base-folds : {img : List ℕ} {s : InodeLayerStack} → Stacked img s → s .count ≡ 0 → {p : ℕ} → s .base ≡ P.At p → {old : List ℕ} {at r : ℕ} {new : List ℕ} → CopiesNode img p old at r new
-    → Put old at (bytesIf (foldedIn img s)) r new
-unfolding recordsOn folded
-base-folds {img} {s} h z {p} e w =
-    let a = rw e at (h .node) in
-    rw (z, e, a .2) (w (a .0) (a .1) (a .2))

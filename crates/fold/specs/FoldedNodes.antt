@@ -137,7 +137,3 @@ pub record Merged (img : List ℕ) (s : InodeLayerStack) (f : Folded) (old : Lis
   pub puts : (vs : Attributes) (es : Entries) → originBytes img (f .attributes) (attributes .write (attributesOf img s type)) ≡ attributes .write vs
       → (kindOf (bodyWith img (f .node .kind) es) ≡ directory → originBytes img (f .entries) (entries .write (entriesOf img s)) ≡ entries .write es)
       → Put old at (node .write (nodeWith img (f .node) vs es)) r new
-
--- the node that is read at a place
-abbrev pub CopiesNode : List ℕ → ℕ → List ℕ → ℕ → ℕ → List ℕ → Type 0
-CopiesNode img p old at r new = (m : M.Node) (t : List ℕ) → node .read (drop p img) ≡ got m t → Put old at (node .write m) r new

@@ -4,7 +4,7 @@ ghost use Rattle.wire.specs.Put.{Put};
 ghost use Rattle.image.specs.FieldLayout.{attributes as attributeList, entries as entryList};
 ghost use Rattle.stack.specs.Stacks.{Stacked};
 ghost use Rattle.fold.specs.Lists.{attributesOf, entriesOf};
-ghost use Rattle.fold.specs.FoldedNodes.{AttributesAfter, EntriesAfter, FoldsDelta, StartsNode, FoldsRecord, entriesFrom, FoldsBase, ShowsIf, foldedIn, FoldsTo, originBytes, PutsBody, Merged, CopiesNode, bytesIf};
+ghost use Rattle.fold.specs.FoldedNodes.{AttributesAfter, EntriesAfter, FoldsDelta, StartsNode, FoldsRecord, entriesFrom, FoldsBase, ShowsIf, foldedIn, FoldsTo, originBytes, PutsBody, bytesIf};
 use crate::list::put_attributes;
 use crate::list::put_entries;
 use apply::node::apply_to_node;
@@ -19,16 +19,12 @@ use nodes::node::Node;
 use nodes::node::NodeKind;
 use nodes::option::OptionPart;
 use nodes::part::Part;
-use passes::inode::Place;
-use passes::node::pass_node;
 use records::write_node::kind_number;
 use records::write_node::put_body;
 use stack::stack::OptionNode;
 use stack::stack::base_node;
 use stack::stack::record_at;
 use survey::batch::InodeLayerStack;
-use wire::cursor::Cursor;
-use wire::cursor::place_at;
 use wire::number::put_number;
 use wire::put::put_part;
 use writers::write_attr::put_inode_meta;
@@ -224,16 +220,16 @@ fn put_folded_body(
     }
 }
 
-// Writes a node with its lists.
-fn put_merged(
+// Writes the node that fold makes of the stack, from its kind on.
+pub fn put_folded(
     buf: &mut [u8],
     at: usize,
     img: &[u8],
     stack: InodeLayerStack,
     folded: Folded,
 ) -> usize
-    requires { ⌜ Stacked (now img) stack ⌝ }
-    ensures { λ r. ⌜ Merged (now (img .entry)) stack folded (now (buf .entry)) at r (now (buf .exit)) ⌝ }
+    requires { ⌜ FoldsTo (now img) stack folded ⌝ }
+    ensures { λ r. ⌜ Put (now (buf .entry)) at (bytesIf (foldedIn (now (img .entry)) stack)) r (now (buf .exit)) ⌝ }
 {
     let node = folded.node;
     let attributes = folded.attributes;
@@ -245,35 +241,4 @@ fn put_merged(
     let list = put_inode_meta(buf, start, meta);
     let body = put_folded_attributes(buf, list, img, stack, file_type, attributes);
     put_folded_body(buf, body, img, stack, kind, entries)
-}
-
-// Copies the base node.
-fn put_base(buf: &mut [u8], at: usize, img: &[u8], place: usize) -> usize
-    ensures { λ r. ⌜ CopiesNode (now (img .entry)) place (now (buf .entry)) at r (now (buf .exit)) ⌝ }
-{
-    let end = place_at(pass_node(img, Cursor::At(place)));
-    if end <= place {
-        return at;
-    }
-    put_part(buf, at, img, place, end - place)
-}
-
-// Writes the node that fold makes of the stack, from its kind on. Without records it is the base node, copied.
-pub fn put_folded(
-    buf: &mut [u8],
-    at: usize,
-    img: &[u8],
-    stack: InodeLayerStack,
-    folded: Folded,
-) -> usize
-    requires { ⌜ FoldsTo (now img) stack folded ⌝ }
-    ensures { λ r. ⌜ Put (now (buf .entry)) at (bytesIf (foldedIn (now (img .entry)) stack)) r (now (buf .exit)) ⌝ }
-{
-    let base = stack.base;
-    if stack.count == 0 {
-        if let Place::At(place) = base {
-            return put_base(buf, at, img, place);
-        }
-    }
-    put_merged(buf, at, img, stack, folded)
 }
