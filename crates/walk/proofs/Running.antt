@@ -1,9 +1,9 @@
 -- How a run is read in the image, row by row, and moved past an inode.
 -- Assumes nothing.
 use mathlib.Core.Path.{_≡_, refl, sym, _∙_}
-use mathlib.Core.Option.{none, some}
+use mathlib.Core.Option.{Option, none, some}
 use mathlib.Core.Bool.{Bool, true, false}
-use mathlib.Core.List.{List, _∷_}
+use mathlib.Core.List.{List, [], _∷_}
 use Prim.Native.Nat.{ℕ, zero, suc, _+_, _*_, _-_, _≤_, _<_}
 use native.Mathlib.Omega.{arith}
 use lib.Dec.{eqb}
@@ -23,13 +23,14 @@ use Rattle.wire.specs.Rows.{choose}
 use Rattle.wire.specs.Lists.{lastCount}
 use Rattle.wire.specs.Reading.{Answers, placeAt}
 use Rattle.image.specs.FieldLayout.{inode}
-use Rattle.passes.specs.Held.{HeldUnder, held}
-use Rattle.image.specs.Places.{Ends}
+use Rattle.passes.specs.Held.{HeldUnder, held, placeOf}
+use Rattle.image.specs.Places.{Ends, ifRead}
 use Rattle.passes.specs.declared.inode.Held.{Held}
+use Rattle.passes.specs.declared.inode.Place.{Place}
 use Rattle.passes.specs.declared.inode.Place.the-variants as P
 use Rattle.image.proofs.Passing.{ends-got, ends-fault}
 use Rattle.merge.specs.Pile.{headIf, pass}
-use Rattle.walk.specs.Runs.{runAt, withRun, piece, Row, rowsIf, rowsRead, rowsLeft, runRows, Ended, Sound, RowsOf, ListOf, Has, Found, Passed}
+use Rattle.walk.specs.Runs.{runAt, withRun, Piece, piece, Row, rowsIf, rowsRead, rowsLeft, runRows, Ended, Sound, RowsOf, ListOf, Has}
 use Rattle.rules.specs.Reads.{isThere}
 use Rattle.walk.specs.declared.run.Run.{Run}
 
@@ -89,6 +90,15 @@ module _ (l : List ℕ) (i : ℕ) (r : Run) where
           number-kept 2 (j * 4 + 2) (omega arith) refl,
           number-kept 3 (j * 4 + 3) (omega arith) refl,
         )
+
+set-same : (l : List ℕ) (i : ℕ) → set l i (getD l i 0) ≡ l
+set-same [] i = refl
+set-same (x ∷ l) zero = refl
+set-same (x ∷ l) (suc i) = rw (set-same l i)
+
+run-same : (l : List ℕ) (i : ℕ) → withRun l i (runAt l i) ≡ l
+unfolding runAt withRun
+run-same l i = rw (set-same l (i * 4), set-same l (i * 4 + 1), set-same l (i * 4 + 2), set-same l (i * 4 + 3))
 
 -- ---- runs
 
@@ -174,6 +184,26 @@ has-left {r} w e = go (r .left) (w .yes e .0)
     go zero n = absurd (n refl)
     go (suc m) n = omega arith
 
+-- ---- past an inode
+
+-- what stands at a place, if it is one
+abbrev pub pieceAt : List ℕ → Held → Option ℕ → Option Piece
+pieceAt img h none = none
+pieceAt img h (some p) = ifRead (held h .read (drop p img)) (λ a r. some (piece h a))
+
+abbrev pub ReadAt : List ℕ → Held → Option ℕ → Type 0
+ReadAt img h none = Unit {0}
+ReadAt img h (some p) = (a : HeldUnder h) × (r : List ℕ) × (held h .read (drop p img) ≡ got a r)
+
+-- run i of the array l is past the inode k in m, and the place is that of what stood under k in the run
+pub record Moved (img : List ℕ) (h : Held) (l : List ℕ) (i k : ℕ) (m : List ℕ) (place : Place) : Type 0 where
+  pub run : Run
+  pub is : m ≡ withRun l i run
+  pub rows : runRows img h run ≡ pass byNumber k (runRows img h (runAt l i))
+  pub sound : Sound img h run
+  pub head : headIf byNumber k (runRows img h (runAt l i)) ≡ pieceAt img h (placeOf place)
+  pub reads : ReadAt img h (placeOf place)
+
 module _ {img : List ℕ} {h : Held} {r : Run} {k : ℕ} (s : Sound img h r) where
   -- a run that is not at k has other rows, or none
   other : (m : ℕ) → (m ≡ r .left) → ((r .left ≡ 0 → ⊥) → k ≡ r .inode → ⊥) → (headIf byNumber k (rowsLeft img h r m) ≡ none) × (rowsLeft img h r m ≡ pass byNumber k (rowsLeft img h r m))
@@ -190,24 +220,25 @@ module _ {img : List ℕ} {h : Held} {r : Run} {k : ℕ} (s : Sound img h r) whe
       go Greater n = (refl, refl)
 
   module _ {b : Bool} (w : Has r k b) where
-    pub place-here : b ≡ true → Found img h r k (P.At (r .place))
-    place-here e =
-        let y = w .yes e in
-        let a = s .reads (y .0) in
-        record { is = rw (run-first img h r (y .0) (a .1), y .1, byNumber .self (r .inode), a .1); reads = (a .0, drop (r .next) img, a .1) }
+    module _ {l : List ℕ} {i : ℕ} (z : r ≡ runAt l i) where
+      pub moved-here : b ≡ true → {next : Run} {m : List ℕ} → RowsOf img h (r .left - 1) (r .next) next → m ≡ withRun l i next → Moved img h l i k m (P.At (r .place))
+      unfolding pass
+      moved-here e {next} d q =
+          let y = w .yes e in
+          let a = s .reads (y .0) in
+          record {
+            run = next;
+            is = q;
+            rows = d .are ∙ rw (← z, run-first img h r (y .0) (a .1), y .1, byNumber .self (r .inode));
+            sound = d .sound;
+            head = rw (← z, run-first img h r (y .0) (a .1), y .1, byNumber .self (r .inode), a .1);
+            reads = (a .0, drop (r .next) img, a .1);
+          }
 
-    pub place-other : b ≡ false → Found img h r k P.Nowhere
-    place-other e = record { is = other (r .left) refl (w .no e) .0; reads = tt }
-
-    pub past-here : b ≡ true → {out : Run} → RowsOf img h (r .left - 1) (r .next) out → Passed img h r k out
-    unfolding pass
-    past-here e d =
-        let y = w .yes e in
-        let a = s .reads (y .0) in
-        record { is = d .are ∙ rw (run-first img h r (y .0) (a .1), y .1, byNumber .self (r .inode)); sound = d .sound }
-
-    pub past-other : b ≡ false → Passed img h r k r
-    past-other e = record { is = other (r .left) refl (w .no e) .1; sound = s }
+      pub moved-other : b ≡ false → Moved img h l i k l P.Nowhere
+      moved-other e =
+          let o = other (r .left) refl (w .no e) in
+          record { run = r; is = rw z (sym (run-same l i)); rows = rw (← z) (o .1); sound = s; head = rw (← z) (o .0); reads = tt }
 
     -- the first row says the same
     pub has-head : b ≡ isThere (headIf byNumber k (runRows img h r))

@@ -4,7 +4,7 @@ use mathlib.Core.Path.{_≡_, refl, sym, ap, _∙_}
 use mathlib.Core.Option.{Option, none, some}
 use mathlib.Core.Bool.{Bool, true, false}
 use mathlib.Core.List.{List, [], _∷_, _++_, append-nil}
-use Prim.Native.Nat.{ℕ, zero, suc, _+_, _≤_, _<_}
+use Prim.Native.Nat.{ℕ, zero, suc, _+_, _-_, _≤_, _<_}
 use native.Mathlib.Omega.{arith}
 use native.Mathlib.Numerals.{add-one}
 use lib.Dec.{eqb}
@@ -28,13 +28,13 @@ use Rattle.rules.proofs.PlacedStack.{records-snoc}
 use Rattle.stack.specs.Stacks.{AllRead, NodeRead}
 use Rattle.merge.specs.Pile.{firstKey, pickKey, lower, leastKey, headIf, passAll, answer}
 use Rattle.merge.proofs.Piles.{pile-step, pile-end, ascend-pass}
-use Rattle.walk.specs.Runs.{runAt, withRun, Piece, Row, rowsLeft, runRows, Sound, Has, pieceAt, ReadAt, Found, Passed}
+use Rattle.walk.specs.Runs.{runAt, withRun, Piece, Row, rowsLeft, runRows, Sound, RowsOf, Has}
 use Rattle.walk.specs.Walks.{Pieces, orNothing, laying, topOf, walkOf, sourcesUnder, sourcesOf, stacksLeft, piecesIn, Whole, Ready, keyIf, keyOf, Lower, Least, Taken, stacksIf, Steps}
 use Rattle.walk.specs.declared.run.Run.{Run}
 use Rattle.walk.specs.declared.walk.Walk.{Walk}
 use Rattle.walk.specs.declared.walk.First.{First}
 use Rattle.walk.specs.declared.walk.Step.{Step}
-use Rattle.walk.proofs.Running.{runs-length, run-set, run-kept, has-head}
+use Rattle.walk.proofs.Running.{runs-length, run-set, run-kept, pieceAt, ReadAt, Moved, moved-here, moved-other, has-head}
 
 -- ---- the lesser of two inodes
 
@@ -170,28 +170,27 @@ pub record Layering (img : List ℕ) (n k : ℕ) (l₀ : List ℕ) (stack₀ : I
   pub wide : length (stack .deltas) ≡ 17
   pub taken : (from : List ℕ) → Taking img from k l₀ stack₀ b₀ 0 → Taking img from k l stack b i
 
-module _ {img : List ℕ} {w : Walk} (h : Whole img w) {base : Run} (z : base ≡ runAt (w .runs) 0) where
-  pub base-sound : Sound img H.Node base
-  base-sound = rw z (h .base)
+module _ {img : List ℕ} {w : Walk} (h : Whole img w) where
+  pub base-sound : {base : Run} → base ≡ runAt (w .runs) 0 → Sound img H.Node base
+  base-sound z = rw z (h .base)
 
-  module _ {k : ℕ} {out : Run} (p : Passed img H.Node base k out) {l : List ℕ} (e : l ≡ withRun (w .runs) 0 out) where
+  module _ {k : ℕ} {l : List ℕ} {place : Place} (p : Moved img H.Node (w .runs) 0 k l place) where
     pub layering-start : {stack : InodeLayerStack} {b : Bool} → stack .count ≡ 0 → length (stack .deltas) ≡ 17 → Layering img (w .count) k l stack b l stack b 0
-    layering-start c d = record { low = omega arith; whole = rw e (base-set h (p .sound)); few = omega arith; wide = d; taken = λ from t. t }
+    layering-start c d = record { low = omega arith; whole = rw (p .is) (base-set h (p .sound)); few = omega arith; wide = d; taken = λ from t. t }
 
-    module _ {place : Place} {b₀ : Bool} (f : Found img H.Node base k place) (a : Has base k b₀) {deltas : List ℕ} where
+    module _ {base : Run} (z : base ≡ runAt (w .runs) 0) {b₀ : Bool} (a : Has base k b₀) {deltas : List ℕ} where
       taking-start : Taking img (w .runs) k l (record { base = place; deltas = deltas; count = 0 }) b₀ 0
       unfolding sourcesUnder passAll answer recordsOn
       taking-start =
           let wide = h .wide in
-          rw e
-          (record {
-            ahead = λ j m. run-kept (w .runs) 0 out j (λ e. omega arith);
-            rest = rw (run-set (w .runs) 0 out (omega arith), p .is, z);
-            node = read-node img (placeOf place) (f .reads);
+          record {
+            ahead = λ j m. rw (p .is) (run-kept (w .runs) 0 (p .run) j (λ e. omega arith));
+            rest = rw (p .is, run-set (w .runs) 0 (p .run) (omega arith), p .rows);
+            node = read-node img (placeOf place) (p .reads);
             records = tt;
-            pieces = rw (← z, f .is) (node-pieces img k (placeOf place) (f .reads));
-            top = rw (← z) (has-head base-sound a);
-          })
+            pieces = rw (p .head) (node-pieces img k (placeOf place) (p .reads));
+            top = rw (← z) (has-head (base-sound z) a);
+          }
 
       pub layering-all : {stack : InodeLayerStack} {b : Bool} {out : List ℕ} {i : ℕ} → Layering img (w .count) k l (record { base = place; deltas = deltas; count = 0 }) b₀ out stack b i
           → w .count ≤ i → Taken img w k (record { more = true; inode = k; top = b; stack = stack }) (walkOf out (w .count))
@@ -211,38 +210,46 @@ module _ {img : List ℕ} {w : Walk} (h : Whole img w) {base : Run} (z : base �
 
 module _ {img : List ℕ} {n k : ℕ} {l₀ : List ℕ} {stack₀ : InodeLayerStack} {b₀ : Bool} {l : List ℕ} {stack : InodeLayerStack} {b : Bool} {i : ℕ}
     (g : Layering img n k l₀ stack₀ b₀ l stack b i) (h : i < n) {run : Run} (z : run ≡ runAt l (i + 1)) where
-  pub layer-sound : Sound img H.Record run
+  layer-sound : Sound img H.Record run
   layer-sound = rw (z, add-one) (g .whole .sound i h)
 
-  module _ {out : Run} {place : Place} {next : InodeLayerStack} {top : Bool} (p : Passed img H.Record run k out) (f : Found img H.Record run k place)
-      (u : Pushed stack (placeOf place) next) (a : Has run k top) where
-    taking-more : (from : List ℕ) → Taking img from k l stack b i → Taking img from k (withRun l (suc i) out) next top (suc i)
-    unfolding sourcesUnder passAll answer
-    taking-more from t =
-        let few = g .whole .few in
-        let here : runAt from (suc i) ≡ run = sym (z ∙ rw (add-one, t .ahead (suc i) (omega arith))) in
-        record {
-          ahead = λ j m. run-kept l (suc i) out j (λ e. omega arith) ∙ t .ahead j (omega arith);
-          rest = sources-set img l i out (omega arith) (g .whole .wide) ∙ rw (here, p .is, t .rest);
-          node = rw (u .base) (t .node);
-          records = rw (u .places) (read-more img (deltasOf stack) (placeOf place) (t .records) (f .reads));
-          pieces =
-              rw (here, u .places, u .base, f .is)
-              (record-pieces img k (deltasOf stack) (placeOf place) (unplacedNode (nodeAt img (placeOf (stack .base)))) (answer byNumber laying k (sourcesUnder img from i)) (f .reads) (t .pieces));
-          top = rw here (has-head layer-sound a);
-        }
+  module _ {top : Bool} (a : Has run k top) where
+    module _ {m : List ℕ} {place : Place} {next : InodeLayerStack} (p : Moved img H.Record l (i + 1) k m place) (u : Pushed stack (placeOf place) next) where
+      taking-more : (from : List ℕ) → Taking img from k l stack b i → Taking img from k (withRun l (suc i) (p .run)) next top (suc i)
+      unfolding sourcesUnder passAll answer
+      taking-more from t =
+          let few = g .whole .few in
+          let here : runAt from (suc i) ≡ runAt l (i + 1) = rw (add-one, t .ahead (suc i) (omega arith)) in
+          record {
+            ahead = λ j m. run-kept l (suc i) (p .run) j (λ e. omega arith) ∙ t .ahead j (omega arith);
+            rest = sources-set img l i (p .run) (omega arith) (g .whole .wide) ∙ rw (here, p .rows, t .rest);
+            node = rw (u .base) (t .node);
+            records = rw (u .places) (read-more img (deltasOf stack) (placeOf place) (t .records) (p .reads));
+            pieces =
+                rw (here, u .places, u .base, p .head)
+                (record-pieces img k (deltasOf stack) (placeOf place) (unplacedNode (nodeAt img (placeOf (stack .base)))) (answer byNumber laying k (sourcesUnder img from i)) (p .reads) (t .pieces));
+            top = rw (here, ← z) (has-head layer-sound a);
+          }
 
-    pub layering-more : {m : List ℕ} → m ≡ withRun l (i + 1) out → Layering img n k l₀ stack₀ b₀ m next top (i + 1)
-    layering-more e =
-        let few = g .whole .few in
-        rw (e, add-one)
-        (record {
-          low = omega arith;
-          whole = layer-set (g .whole) (omega arith) (p .sound) n few (λ j m d. m);
-          few = omega (arith, u .few, g .few);
-          wide = u .wide;
-          taken = λ from t. taking-more from (g .taken from t);
-        })
+      layering-more : Layering img n k l₀ stack₀ b₀ m next top (i + 1)
+      layering-more =
+          let few = g .whole .few in
+          rw (p .is, add-one)
+          (record {
+            low = omega arith;
+            whole = layer-set (g .whole) (omega arith) (p .sound) n few (λ j m d. m);
+            few = omega (arith, u .few, g .few);
+            wide = u .wide;
+            taken = λ from t. taking-more from (g .taken from t);
+          })
+
+    pub layering-here : top ≡ true → {out : Run} {m : List ℕ} {next : InodeLayerStack} → RowsOf img H.Record (run .left - 1) (run .next) out → m ≡ withRun l (i + 1) out
+        → Pushed stack (some (run .place)) next → Layering img n k l₀ stack₀ b₀ m next top (i + 1)
+    layering-here e d q u = layering-more (moved-here layer-sound a z e d q) u
+
+    -- no place more
+    pub layering-other : top ≡ false → Layering img n k l₀ stack₀ b₀ l stack top (i + 1)
+    layering-other e = layering-more (moved-other layer-sound a z e) (record { places = rw append-nil; few = omega arith; wide = g .wide; base = refl })
 
 -- ---- the step
 

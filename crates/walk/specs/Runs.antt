@@ -1,6 +1,5 @@
 -- Lists by inode as rows. Document 01: "Base: by rising inode", "Records by rising inode".
 use mathlib.Core.Path.{_≡_}
-use mathlib.Core.Option.{Option, none, some}
 use mathlib.Core.Bool.{Bool, true, false}
 use mathlib.Core.List.{List, [], _∷_}
 use Prim.Native.Nat.{ℕ, zero, suc, _+_, _*_}
@@ -8,16 +7,12 @@ use lib.ListN.{drop, getD, set}
 use Rattle.wire.specs.Parse.{Parsed, fault, got}
 use Rattle.wire.specs.Combinators.{_then_}
 use Rattle.wire.specs.Number.{number-read}
-use Rattle.wire.specs.Orders.{byNumber}
 use Rattle.wire.specs.Lists.{lastCount}
 use Rattle.image.specs.Meaning.{Node, Record}
 use Rattle.image.specs.FieldLayout.{inode}
-use Rattle.passes.specs.Held.{HeldUnder, held, placeOf}
-use Rattle.image.specs.Places.{ifRead}
+use Rattle.passes.specs.Held.{HeldUnder, held}
 use Rattle.passes.specs.declared.inode.Held.{Held}
 use Rattle.passes.specs.declared.inode.Held.the-variants as H
-use Rattle.passes.specs.declared.inode.Place.{Place}
-use Rattle.merge.specs.Pile.{headIf, pass}
 use Rattle.walk.specs.declared.run.Run.{Run}
 
 -- ---- runs in an array, four numbers each
@@ -83,20 +78,3 @@ pub record ListOf (img : List ℕ) (h : Held) (p : ℕ) (r : Run) : Type 0 where
 pub record Has (r : Run) (k : ℕ) (b : Bool) : Type 0 where
   pub yes : b ≡ true → (r .left ≡ 0 → ⊥) × (k ≡ r .inode)
   pub no : b ≡ false → (r .left ≡ 0 → ⊥) → k ≡ r .inode → ⊥
-
--- what stands at a place, if it is one
-abbrev pub pieceAt : List ℕ → Held → Option ℕ → Option Piece
-pieceAt img h none = none
-pieceAt img h (some p) = ifRead (held h .read (drop p img)) (λ a r. some (piece h a))
-
-abbrev pub ReadAt : List ℕ → Held → Option ℕ → Type 0
-ReadAt img h none = Unit {0}
-ReadAt img h (some p) = (a : HeldUnder h) × (r : List ℕ) × (held h .read (drop p img) ≡ got a r)
-
-pub record Found (img : List ℕ) (h : Held) (r : Run) (k : ℕ) (place : Place) : Type 0 where
-  pub is : headIf byNumber k (runRows img h r) ≡ pieceAt img h (placeOf place)
-  pub reads : ReadAt img h (placeOf place)
-
-pub record Passed (img : List ℕ) (h : Held) (r : Run) (k : ℕ) (out : Run) : Type 0 where
-  pub is : runRows img h out ≡ pass byNumber k (runRows img h r)
-  pub sound : Sound img h out

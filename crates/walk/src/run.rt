@@ -3,9 +3,8 @@ ghost use Prim.Native.Nat.{_<_};
 ghost use mathlib.Core.Path.{_≡_};
 ghost use Rattle.passes.specs.Held.{held};
 ghost use Rattle.image.specs.Places.{Ends};
-ghost use Rattle.walk.specs.Runs.{runAt, withRun, Ended, Sound, RowsOf, ListOf, Has, Found, Passed};
+ghost use Rattle.walk.specs.Runs.{runAt, withRun, Ended, RowsOf, ListOf, Has};
 use passes::inode::Held;
-use passes::inode::Place;
 use passes::node::pass_node;
 use passes::record::pass_record;
 use wire::cursor::Cursor;
@@ -110,26 +109,4 @@ pub fn has_inode(run: Run, inode: u64) -> bool
         return false;
     }
     run.inode == inode
-}
-
-// The place of what stands under an inode, if the run is at it.
-pub fn place_under(img: &[u8], run: Run, inode: u64, what: Held) -> Place
-    requires { ⌜ Sound (now img) what run ⌝ }
-    ensures { λ r. ⌜ Found (now (img .entry)) what run inode r ⌝ }
-{
-    if has_inode(run, inode) {
-        return Place::At(run.place);
-    }
-    Place::Nowhere
-}
-
-// The run past an inode, if it is at it.
-pub fn past_inode(img: &[u8], run: Run, inode: u64, what: Held) -> Run
-    requires { ⌜ Sound (now img) what run ⌝ }
-    ensures { λ r. ⌜ Passed (now (img .entry)) what run inode r ⌝ }
-{
-    if has_inode(run, inode) {
-        return run_from(img, run.next, run.left - 1, what);
-    }
-    run
 }

@@ -3,11 +3,11 @@ ghost use Prim.Native.Nat.{_≤_};
 ghost use Rattle.walk.specs.Walks.{walkOf, Whole, Ready, Lower, Least, Taken, Steps};
 use crate::run::Run;
 use crate::run::has_inode;
-use crate::run::past_inode;
-use crate::run::place_under;
+use crate::run::run_from;
 use crate::run::run_of;
 use crate::run::set_run;
 use passes::inode::Held;
+use passes::inode::Place;
 use survey::batch::InodeLayerStack;
 use survey::batch::pushed;
 
@@ -75,20 +75,26 @@ fn take_stack(img: &[u8], runs: &mut [u64; 72], count: usize, inode: u64) -> Ste
     ensures { λ r. ⌜ Taken (now (img .entry)) (walkOf (now (runs .entry)) count) inode r (walkOf (now (runs .exit)) count) ⌝ }
 {
     let base = run_of(runs, 0);
-    set_run(runs, 0, past_inode(img, base, inode, Held::Node));
+    let mut top = has_inode(base, inode);
+    let mut node = Place::Nowhere;
+    if top {
+        set_run(runs, 0, run_from(img, base.next, base.left - 1, Held::Node));
+        node = Place::At(base.place);
+    }
     let mut stack = InodeLayerStack {
-        base: place_under(img, base, inode, Held::Node),
+        base: node,
         deltas: [0; 17],
         count: 0,
     };
-    let mut top = has_inode(base, inode);
     let mut i: usize = 0;
     while i < count {
         i += 1;
         let run = run_of(runs, i);
-        set_run(runs, i, past_inode(img, run, inode, Held::Record));
-        stack = pushed(stack, place_under(img, run, inode, Held::Record));
         top = has_inode(run, inode);
+        if top {
+            set_run(runs, i, run_from(img, run.next, run.left - 1, Held::Record));
+            stack = pushed(stack, Place::At(run.place));
+        }
     }
     Step {
         more: true,
