@@ -1,15 +1,14 @@
--- The loop that writes and counts the rows that sources give, and a list of them.
+-- The loop that writes and counts the rows that sources give.
 -- Assumes nothing.
 use mathlib.Core.Path.{_≡_, refl, sym, ap, _∙_}
 use mathlib.Core.Bool.{true, false}
-use mathlib.Core.List.{List, [], _∷_, _++_}
-use Prim.Native.Nat.{ℕ, _+_, _≤_, _<_, min}
+use mathlib.Core.List.{List}
+use Prim.Native.Nat.{ℕ, _+_, _≤_, _<_}
 use native.Mathlib.Omega.{arith}
 use mir.Syntax.{w64}
 use mir.Val.{Fits}
-use lib.ListN.{length, length-append}
-use lib.Seq.{sets, length-sets}
-use Rattle.wire.specs.Number.{edge, numberBytes}
+use lib.ListN.{length}
+use Rattle.wire.specs.Number.{edge}
 use Rattle.wire.specs.Put.{Put}
 use Rattle.wire.proofs.Puts.{put-append, put-length}
 use Rattle.writers.proofs.Writing.{put-nothing}
@@ -18,7 +17,7 @@ use Rattle.image.specs.Meaning.{Text}
 use Rattle.merge.specs.Sources.{Given}
 use Rattle.merge.specs.declared.source.Head.{Head}
 use Rattle.merge.specs.declared.merge.Sources.{Sources}
-use Rattle.fold.specs.Lists.{rowGiven, rowsGiven, listGiven, givenOfHead, Few, PutsRows}
+use Rattle.fold.specs.Lists.{rowGiven, rowsGiven, givenOfHead, Few, PutsRows}
 use Rattle.fold.specs.declared.list.NameList.{NameList}
 
 -- the row that stands first and those that follow
@@ -69,21 +68,3 @@ module _ {l₀ : List ℕ} {at : ℕ} {img : List ℕ} {n : NameList} {h₀ : He
       puts = rw (t .settles .gives) (g .on i l (rw e (put-nothing (omega (arith, g .long)) (record { fits = omega (arith, g .low) }))));
       counts = let z = rw e at (g .counts) in sym (ap length (t .settles .gives) ∙ z ∙ omega arith);
     }
-
--- ---- their count first
-
-no-bytes : (l : List ℕ) → length l ≡ 0 → l ≡ []
-no-bytes [] h = refl
-no-bytes (b ∷ l) h = absurd (omega arith)
-
--- nothing is written into an empty buffer
-sets-empty : (l : List ℕ) (at : ℕ) (xs : List ℕ) → length l ≡ 0 → sets l at xs ≡ []
-sets-empty l at xs h = no-bytes (sets l at xs) (length-sets l at xs ∙ h)
-
--- into an empty buffer: what was measured from 0 on is added
-pub put-measured : {l m : List ℕ} {at q e r : ℕ} {xs ys k o : List ℕ} → length l ≡ 0 → Put l at xs q m → Put k 0 ys e o → r ≡ min (q + e) edge → Put l at (xs ++ ys) r m
-put-measured {l} {m} {at} {q} {e} {r} {xs} {ys} z p w h = record {
-  to = omega (arith, p .to, w .to, length-append xs ys);
-  is = p .is ∙ sets-empty l at xs z ∙ sym (sets-empty l at (xs ++ ys) z);
-  short = p .short;
-}

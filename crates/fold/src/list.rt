@@ -1,4 +1,8 @@
 // The attributes and entries that fold makes of a stack: its lists merged by name, and written with their count first.
+ghost use Prim.Native.Nat.{_+_, min};
+ghost use mathlib.Core.Path.{_≡_};
+ghost use lib.ListN.{length};
+ghost use Rattle.wire.specs.Number.{edge};
 ghost use Rattle.wire.specs.Combinators.{_then_};
 ghost use Rattle.wire.specs.Put.{Put};
 ghost use Rattle.image.specs.FieldLayout.{name as nameCodec, value as valueCodec, attributes, entries};
@@ -72,19 +76,33 @@ fn put_rows(buf: &mut [u8], at: usize, img: &[u8], all: Sources, list: NameList)
     Rows { end, count }
 }
 
-// Writes the rows that the sources give, their count first. Into an empty buffer they are written once, to be counted and measured.
+// The place after the rows that the sources give, with their count first.
+fn measure_list(at: usize, img: &[u8], all: Sources, list: NameList) -> usize
+    requires { ⌜ Few (now img) all ⌝ }
+    ensures { λ r. ⌜ r ≡ min (at + length (listGiven list (givenBy (now (img .entry)) all))) edge ⌝ }
+{
+    let mut none = [0u8; 0];
+    let rows = put_rows(&mut none, 0, img, all, list);
+    let first = put_number(&mut none, at, rows.count);
+    advance(first, rows.end)
+}
+
+// Writes the rows that the sources give, their count first. The rows come first, after one byte for the count; if it takes more, they are
+// written again.
 fn put_list(buf: &mut [u8], at: usize, img: &[u8], all: Sources, list: NameList) -> usize
     requires { ⌜ Few (now img) all ⌝ }
     ensures { λ r. ⌜ Put (now (buf .entry)) at (listGiven list (givenBy (now (img .entry)) all)) r (now (buf .exit)) ⌝ }
 {
-    let mut none = [0u8; 0];
-    let measured = put_rows(&mut none, 0, img, all, list);
-    let first = put_number(buf, at, measured.count);
     if buf.len() == 0 {
-        return advance(first, measured.end);
+        return measure_list(at, img, all, list);
     }
-    let written = put_rows(buf, first, img, all, list);
-    written.end
+    let rows = put_rows(buf, advance(at, 1), img, all, list);
+    let first = put_number(buf, at, rows.count);
+    if rows.count < 128 {
+        return rows.end;
+    }
+    let again = put_rows(buf, first, img, all, list);
+    again.end
 }
 
 // Writes the attributes that fold makes of a stack whose node is of the type.
