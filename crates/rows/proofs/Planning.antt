@@ -43,6 +43,10 @@ plan-none {img} n z = record { answers = rw (n .answers, n .none-left img); fits
 
 -- ---- room for the rows
 
+no-items : {A : Type 0} (l : List A) → length l ≡ 0 → l ≡ []
+no-items [] h = refl
+no-items (x ∷ l) h = absurd (omega arith)
+
 counted-rows : (room count n : ℕ) → countOf count room ≡ C.Rows n → (ltb room count ≡ false) × (count ≡ n)
 counted-rows room count n = go (ltb room count) refl
   where
@@ -65,6 +69,13 @@ module _ {img : List ℕ} {s : InodeLayerStack} (l : Listing) {all : Sources} (g
       let low = ltb-false room (length (decidedRows img all)) (z .0) in
       let same = ap length (t .rows) in
       rw (← gathered-rows l g, z .0, t .rows) (record { answers = refl; fits = record { ready = t .ready; count = sym same ∙ z .1; small = omega (arith, low, z .1) } })
+
+  pub planned-none : {room : ℕ} {c : Counted} → c ≡ countOf (length (decidedRows img all)) room → {n : ℕ} → c ≡ C.Rows n → n ≡ 0 → {p : Plan} → NoRows (A.Rows 0) p
+      → Plans img (roomFor room (rowsListed l (recordsIn img s) (nodeIn img s))) room p
+  planned-none {room} k {n} e o w =
+      let z = counted-rows room (length (decidedRows img all)) n (sym k ∙ e) in
+      let none-listed : rowsListed l (recordsIn img s) (nodeIn img s) ≡ [] = no-items (rowsListed l (recordsIn img s) (nodeIn img s)) (rw (gathered-rows l g) at (z .1 ∙ o)) in
+      rw (← gathered-rows l g, z .0, gathered-rows l g, none-listed) (plan-none w refl)
 
   pub planned-few : {room : ℕ} {c : Counted} → c ≡ countOf (length (decidedRows img all)) room → {p : Plan} → c ≡ C.TooMany → NoRows (A.Refused 5) p
       → Plans img (roomFor room (rowsListed l (recordsIn img s) (nodeIn img s))) room p

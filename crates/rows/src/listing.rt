@@ -77,10 +77,15 @@ fn plan_rows(img: &[u8], stack: InodeLayerStack, listing: Listing, room: usize) 
 {
     let all = gather_sources(img, stack, lists_of(listing));
     match count_rows(img, all, room) {
-        Counted::Rows(count) => Plan {
-            merge: settle(img, all),
-            answer: RowsAnswer::Rows(count),
-        },
+        Counted::Rows(count) => {
+            if count == 0 {
+                return no_rows(RowsAnswer::Rows(0));
+            }
+            Plan {
+                merge: settle(img, all),
+                answer: RowsAnswer::Rows(count),
+            }
+        }
         Counted::TooMany => no_rows(RowsAnswer::Refused(5)),
     }
 }
