@@ -3,40 +3,38 @@
 use mathlib.Core.Path.{_≡_, refl, sym, ap, _∙_}
 use mathlib.Core.Option.{Option, none, some}
 use mathlib.Core.Bool.{Bool, true, false, cond}
-use mathlib.Core.List.{List, _++_}
+use mathlib.Core.Logic.{⊎-elim}
+use mathlib.Core.List.{List, [], _++_, append-nil}
 use Prim.Native.Nat.{ℕ, _+_, _-_, _≤_, _<_}
 use native.Mathlib.Omega.{arith}
 use mir.Syntax.{w64}
 use mir.Val.{Fits}
 use denote.Enum.Declared.{tagOf}
 use types.Run.{OneOf}
-use lib.ListN.{length, drop, length-append, length-drop}
+use lib.ListN.{length, drop, length-append, length-drop, drop-of-length-le}
+use lib.Seq.{take-all, take-at}
 use borrow.Author.Tests.{ne-eqb}
-use Rattle.wire.specs.declared.cursor.Cursor.{Cursor}
-use Rattle.wire.specs.declared.cursor.Cursor.the-variants.{At, Stop}
-use Rattle.wire.specs.Number.{edge, number-one}
-use Rattle.wire.specs.Parse.{never-got}
-use Rattle.wire.specs.Reading.{Reads, placeAt}
+use Rattle.wire.specs.Number.{edge, lt-or-ge}
 use Rattle.wire.specs.Maps.{sift}
 use Rattle.wire.specs.Put.{Put}
 use Rattle.wire.proofs.Puts.{put-append, put-length}
 use Rattle.image.specs.Meaning as M
-use Rattle.image.specs.Meaning.{kindNumber, kindOf}
+use Rattle.image.specs.Meaning.{kindOf}
 use Rattle.image.specs.FieldLayout.{inode}
-use Rattle.image.specs.KindLayout.{kind}
 use Rattle.image.specs.NodeLayout.{node}
+use Rattle.passes.specs.Held.{placeOf}
 use Rattle.passes.specs.declared.inode.Place.the-variants as P
 use Rattle.survey.specs.declared.batch.InodeLayerStack.{InodeLayerStack}
 use Rattle.rules.specs.Queue.{isDirectory, kept}
 use Rattle.rules.specs.PlacedStacks.{recordsOn, nodeAt, unplacedNode}
 use Rattle.rules.proofs.Folded.{folded}
-use Rattle.nodes.specs.Nodes.{bodyMeant, nodeMeant, ReadsNode}
+use Rattle.nodes.specs.Nodes.{bodyMeant}
 use Rattle.nodes.specs.declared.node.Node.{Node}
 use Rattle.nodes.specs.declared.node.NodeKind.{NodeKind}
 use Rattle.nodes.proofs.node.NodeKind as kinds
 use Rattle.deltas.proofs.Others.{one-kind, notDirectory}
-use Rattle.writers.proofs.Writing.{put-nothing, part-written}
-use Rattle.stack.specs.Stacks.{Stacked, NodeRead}
+use Rattle.writers.proofs.Writing.{put-nothing}
+use Rattle.stack.specs.Stacks.{Stacked}
 use Rattle.change.specs.Sections.{between}
 use Rattle.merge.specs.Pile.{row}
 use Rattle.fold.specs.FoldedNodes.{Shows, ShowsIf, foldedIn, FoldsTo, bytesIf}
@@ -44,10 +42,10 @@ use Rattle.fold.specs.declared.folded.Folded.{Folded}
 use Rattle.fold.specs.declared.folded.OptionFolded.{OptionFolded}
 use Rattle.fold.specs.declared.folded.OptionFolded.the-variants as O
 use Rattle.fold.proofs.Folding.{shows-kind}
-use Rattle.walk.specs.Walks.{Pieces, Ready, stacksLeft, stacksIf, piecesIn, Steps}
+use Rattle.walk.specs.Walks.{Pieces, Ready, stacksLeft, stacksIf, piecesIn, NodeEnds, Steps}
 use Rattle.walk.specs.declared.walk.Walk.{Walk}
 use Rattle.walk.specs.declared.walk.Step.{Step}
-use Rattle.base.specs.Nodes.{keptIf, Like, Keeps, Stays, countIf, nodesOf, rowBytes, nodesBytes, PutsRow, PutsNodes, Few}
+use Rattle.base.specs.Nodes.{keptIf, Like, Keeps, Stays, StaysAt, countIf, nodesOf, rowBytes, nodesBytes, PutsRow, PutsNodes, Few}
 use Rattle.base.specs.declared.node.Nodes.{Nodes}
 
 -- ---- a node
@@ -65,7 +63,7 @@ module _ {n : Node} where
 shows-like : {img : List ℕ} {f : Folded} {m : M.Node} → Shows img f m → Like img (f .node) m
 shows-like h = record { links = ap (λ (x : M.Node). x .meta .links) (sym (h .is)); kind = shows-kind h }
 
-sift-by : (b : Bool) (m : M.Node) → b ≡ kept m → sift kept (some m) ≡ cond b (some m) none
+pub sift-by : (b : Bool) (m : M.Node) → b ≡ kept m → sift kept (some m) ≡ cond b (some m) none
 sift-by b m e = go (kept m) ∙ ap (λ (x : Bool). cond x (some m) none) (sym e)
   where
     go : (b : Bool) → _≡_ {A = Option M.Node} (elim b [ true ↦ some m | false ↦ none ]) (cond b (some m) none)
@@ -124,39 +122,31 @@ pub no-records : (img : List ℕ) (s : InodeLayerStack) → s .count ≡ 0 → {
 unfolding recordsOn folded
 no-records img s z e = rw (z, e)
 
-node-long : (m : M.Node) → 1 ≤ length (node .write m)
-unfolding node kind
-node-long m = simp length-append (omega (arith, number-one (kindNumber (kindOf (m .body)))))
-
-module _ {img : List ℕ} {p : ℕ} {n : Node} {next : Cursor} (a : NodeRead img (some p)) (h : ReadsNode img (At p) n next) where
-  -- it was read whole, and is copied so
-  whole : (q : ℕ) × (next ≡ At q) × Reads img (node .read) (At p) (nodeMeant img n) (At q)
-  whole = go next refl (h .reads)
-    where
-      go : (c : Cursor) → next ≡ c → Reads img (node .read) (At p) (nodeMeant img n) c → (q : ℕ) × (next ≡ At q) × Reads img (node .read) (At p) (nodeMeant img n) (At q)
-      go (Stop f) e r = never-got (sym (r .same) ∙ a .2)
-      go (At q) e r = (q, e, r)
-
-  base-bytes : between img p (placeAt next) ≡ node .write (nodeMeant img n)
+module _ (img : List ℕ) (p e : ℕ) (h : NodeEnds img (some p) e) where
+  -- it is copied
+  base-bytes : between img p e ≡ node .write (h .0)
   base-bytes =
-      let r = whole .2 in
-      let b = node .forth (drop p img) (nodeMeant img n) (drop (whole .0) img) (r .same) .0 in
-      let l : length img - p ≡ length (node .write (nodeMeant img n)) + (length img - whole .0) = rw (← length-drop, ← length-drop, ← length-append) (ap length b) in
-      rw (whole .1) (part-written node (omega (arith, l, node-long (nodeMeant img n))) r)
+      let w = node .write (h .0) in
+      let b : drop p img ≡ w ++ drop e img = node .forth (drop p img) (h .0) (drop e img) (h .1) .0 in
+      let l : length img - p ≡ length w + (length img - e) = rw (← length-drop, ← length-drop, ← length-append) (ap length b) in
+      rw b
+      (⊎-elim
+      (λ (k : length img < e).
+      let z : drop e img ≡ [] = drop-of-length-le img {i = e} (omega arith) in
+      rw (z, append-nil) (take-all (e - p) w (omega (arith, l))))
+      (λ (k : e ≤ length img). take-at w (drop e img) (e - p) (omega (arith, l)))
+      (lt-or-ge (length img) e))
 
-  base-is : unplacedNode (nodeAt img (some p)) ≡ some (nodeMeant img n)
-  base-is = rw (whole .2 .same)
+  base-is : unplacedNode (nodeAt img (some p)) ≡ some (h .0)
+  base-is = rw (h .1)
 
-  module _ {d b : Bool} (k : Stays n d b) where
-    stays-is : keptIf d (some (nodeMeant img n)) ≡ cond b (some (nodeMeant img n)) none
-    stays-is = k .says img (nodeMeant img n) (record { links = refl; kind = refl })
-
-    pub base-put : (i : ℕ) (o : Nodes) → b ≡ true → {old mid new : List ℕ} {q e r : ℕ} → Put old (o .end) (inode .write i) q mid → e ≡ placeAt next → Put mid q (between img p e) r new
+  module _ {d b : Bool} (k : StaysAt img p d b) (i : ℕ) (o : Nodes) where
+    pub base-put : b ≡ true → {old mid new : List ℕ} {q r : ℕ} → Put old (o .end) (inode .write i) q mid → Put mid q (between img p e) r new
         → PutsRow old o i (keptIf d (unplacedNode (nodeAt img (some p)))) (record { end = r; count = o .count + 1 }) new
-    base-put i o z u e v = rw (base-is, stays-is, z) (record { puts = put-append u (rw (e, base-bytes) at v); counts = refl })
+    base-put z u v = rw (base-is, k .says (h .0) (drop e img) (h .1), z) (record { puts = put-append u (rw base-bytes at v); counts = refl })
 
-    pub base-dropped : (i : ℕ) (o : Nodes) → b ≡ false → {old : List ℕ} → length old < edge → Fits w64 (o .end) → PutsRow old o i (keptIf d (unplacedNode (nodeAt img (some p)))) o old
-    base-dropped i o z w l = rw (base-is, stays-is, z) (record { puts = put-nothing w l; counts = omega arith })
+    pub base-dropped : b ≡ false → {old : List ℕ} → length old < edge → Fits w64 (o .end) → PutsRow old o i (keptIf d (unplacedNode (nodeAt img (some p)))) o old
+    base-dropped z w l = rw (base-is, k .says (h .0) (drop e img) (h .1), z) (record { puts = put-nothing w l; counts = omega arith })
 
 -- ---- the rows of a walk
 
@@ -181,6 +171,7 @@ row-one (some m) = omega arith
 pub record Writing (l₀ : List ℕ) (at : ℕ) (img : List ℕ) (all : List (ℕ × Pieces)) (d : Bool) (l : List ℕ) (t : Step) (w : Walk) (n : Nodes) : Type 0 where
   pub ready : Ready img w
   pub stacked : Stacked img (t .stack)
+  pub ends : NodeEnds img (placeOf (t .stack .base)) (t .end)
   pub long : length l ≡ length l₀
   pub low : n .end ≤ edge
   pub few : n .count + length (stacksAt img t w) ≤ edge
@@ -192,6 +183,7 @@ pub writing-none : {l : List ℕ} {at : ℕ} {img : List ℕ} {v : Walk} {t : St
 writing-none d f s k = record {
   ready = s .ready;
   stacked = s .taken .stacked;
+  ends = s .taken .ends;
   long = refl;
   low = omega (arith, k .fits);
   few = omega (arith, f .few, ap length (s .stacks));
@@ -217,6 +209,7 @@ module _ {l₀ : List ℕ} {at : ℕ} {img : List ℕ} {all : List (ℕ × Piece
           record {
             ready = s .ready;
             stacked = s .taken .stacked;
+            ends = s .taken .ends;
             long = put-length (p .puts) ∙ g .long;
             low = omega (arith, p .puts .to);
             few = omega (arith, fewer, p .counts, row-one o);

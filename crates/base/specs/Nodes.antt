@@ -4,9 +4,10 @@ use mathlib.Core.Option.{Option, none, some}
 use mathlib.Core.Bool.{Bool, true, false, cond}
 use mathlib.Core.List.{List, [], _∷_, _++_}
 use Prim.Native.Nat.{ℕ, _+_, _≤_}
-use lib.ListN.{length}
+use lib.ListN.{length, drop}
 use Rattle.wire.specs.Maps.{sift}
 use Rattle.wire.specs.Number.{edge, numberBytes}
+use Rattle.wire.specs.Parse.{got}
 use Rattle.wire.specs.Put.{Put}
 use Rattle.image.specs.Meaning as M
 use Rattle.image.specs.Meaning.{kindOf}
@@ -39,6 +40,10 @@ pub record Keeps (n : Node) (b : Bool) : Type 0 where
 
 pub record Stays (n : Node) (drops b : Bool) : Type 0 where
   pub says : (img : List ℕ) (m : M.Node) → Like img n m → keptIf drops (some m) ≡ cond b (some m) none
+
+-- the node that is read at a place, by its kind and links
+pub record StaysAt (img : List ℕ) (p : ℕ) (drops b : Bool) : Type 0 where
+  pub says : (m : M.Node) (t : List ℕ) → node .read (drop p img) ≡ got m t → keptIf drops (some m) ≡ cond b (some m) none
 
 abbrev pub countIf : Option M.Node → ℕ
 countIf none = 0

@@ -195,6 +195,11 @@ abbrev pub ReadAt : List ℕ → Held → Option ℕ → Type 0
 ReadAt img h none = Unit {0}
 ReadAt img h (some p) = (a : HeldUnder h) × (r : List ℕ) × (held h .read (drop p img) ≡ got a r)
 
+-- what stands at a place ends there
+abbrev pub EndsAt : List ℕ → Held → Option ℕ → ℕ → Type 0
+EndsAt img h none e = Unit {0}
+EndsAt img h (some p) e = (a : HeldUnder h) × (held h .read (drop p img) ≡ got a (drop e img))
+
 -- run i of the array l is past the inode k in m, and the place is that of what stood under k in the run
 pub record Moved (img : List ℕ) (h : Held) (l : List ℕ) (i k : ℕ) (m : List ℕ) (place : Place) : Type 0 where
   pub run : Run
@@ -203,6 +208,7 @@ pub record Moved (img : List ℕ) (h : Held) (l : List ℕ) (i k : ℕ) (m : Lis
   pub sound : Sound img h run
   pub head : headIf byNumber k (runRows img h (runAt l i)) ≡ pieceAt img h (placeOf place)
   pub reads : ReadAt img h (placeOf place)
+  pub ends : EndsAt img h (placeOf place) (runAt l i .next)
 
 module _ {img : List ℕ} {h : Held} {r : Run} {k : ℕ} (s : Sound img h r) where
   -- a run that is not at k has other rows, or none
@@ -233,12 +239,13 @@ module _ {img : List ℕ} {h : Held} {r : Run} {k : ℕ} (s : Sound img h r) whe
             sound = d .sound;
             head = rw (← z, run-first img h r (y .0) (a .1), y .1, byNumber .self (r .inode), a .1);
             reads = (a .0, drop (r .next) img, a .1);
+            ends = rw (← z) a;
           }
 
       pub moved-other : b ≡ false → Moved img h l i k l P.Nowhere
       moved-other e =
           let o = other (r .left) refl (w .no e) in
-          record { run = r; is = rw z (sym (run-same l i)); rows = rw (← z) (o .1); sound = s; head = rw (← z) (o .0); reads = tt }
+          record { run = r; is = rw z (sym (run-same l i)); rows = rw (← z) (o .1); sound = s; head = rw (← z) (o .0); reads = tt; ends = tt }
 
     -- the first row says the same
     pub has-head : b ≡ isThere (headIf byNumber k (runRows img h r))

@@ -29,12 +29,12 @@ use Rattle.stack.specs.Stacks.{AllRead, NodeRead}
 use Rattle.merge.specs.Pile.{firstKey, pickKey, lower, leastKey, headIf, passAll, answer}
 use Rattle.merge.proofs.Piles.{pile-step, pile-end, ascend-pass}
 use Rattle.walk.specs.Runs.{runAt, withRun, Piece, Row, rowsLeft, runRows, Sound, RowsOf, Has}
-use Rattle.walk.specs.Walks.{Pieces, orNothing, laying, topOf, walkOf, sourcesUnder, sourcesOf, stacksLeft, piecesIn, Whole, Ready, keyIf, keyOf, Lower, Least, Taken, stacksIf, Steps}
+use Rattle.walk.specs.Walks.{Pieces, orNothing, laying, topOf, walkOf, sourcesUnder, sourcesOf, stacksLeft, piecesIn, Whole, Ready, keyIf, keyOf, Lower, Least, NodeEnds, Taken, stacksIf, Steps}
 use Rattle.walk.specs.declared.run.Run.{Run}
 use Rattle.walk.specs.declared.walk.Walk.{Walk}
 use Rattle.walk.specs.declared.walk.First.{First}
 use Rattle.walk.specs.declared.walk.Step.{Step}
-use Rattle.walk.proofs.Running.{runs-length, run-set, run-kept, pieceAt, ReadAt, Moved, moved-here, moved-other, has-head}
+use Rattle.walk.proofs.Running.{EndsAt, runs-length, run-set, run-kept, pieceAt, ReadAt, Moved, moved-here, moved-other, has-head}
 
 -- ---- the lesser of two inodes
 
@@ -162,12 +162,18 @@ pub record Taking (img l : List ℕ) (k : ℕ) (out : List ℕ) (stack : InodeLa
   pieces : piecesIn img stack ≡ orNothing (answer byNumber laying k (sourcesUnder img l i))
   top : b ≡ isThere (headIf byNumber k (topOf (sourcesUnder img l i)))
 
+-- where the node ends
+node-ends : (img : List ℕ) (o : Option ℕ) (e : ℕ) → EndsAt img H.Node o e → NodeEnds img o e
+node-ends img none e h = tt
+node-ends img (some p) e h = h
+
 -- the loop, from what is in hand where it starts
 pub record Layering (img : List ℕ) (n k : ℕ) (l₀ : List ℕ) (stack₀ : InodeLayerStack) (b₀ : Bool) (l : List ℕ) (stack : InodeLayerStack) (b : Bool) (i : ℕ) : Type 0 where
   pub low : i ≤ n
   pub whole : Whole img (walkOf l n)
   pub few : stack .count ≤ i
   pub wide : length (stack .deltas) ≡ 17
+  pub base : stack .base ≡ stack₀ .base
   pub taken : (from : List ℕ) → Taking img from k l₀ stack₀ b₀ 0 → Taking img from k l stack b i
 
 module _ {img : List ℕ} {w : Walk} (h : Whole img w) where
@@ -176,7 +182,7 @@ module _ {img : List ℕ} {w : Walk} (h : Whole img w) where
 
   module _ {k : ℕ} {l : List ℕ} {place : Place} (p : Moved img H.Node (w .runs) 0 k l place) where
     pub layering-start : {stack : InodeLayerStack} {b : Bool} → stack .count ≡ 0 → length (stack .deltas) ≡ 17 → Layering img (w .count) k l stack b l stack b 0
-    layering-start c d = record { low = omega arith; whole = rw (p .is) (base-set h (p .sound)); few = omega arith; wide = d; taken = λ from t. t }
+    layering-start c d = record { low = omega arith; whole = rw (p .is) (base-set h (p .sound)); few = omega arith; wide = d; base = refl; taken = λ from t. t }
 
     module _ {base : Run} (z : base ≡ runAt (w .runs) 0) {b₀ : Bool} (a : Has base k b₀) {deltas : List ℕ} where
       taking-start : Taking img (w .runs) k l (record { base = place; deltas = deltas; count = 0 }) b₀ 0
@@ -193,7 +199,7 @@ module _ {img : List ℕ} {w : Walk} (h : Whole img w) where
           }
 
       pub layering-all : {stack : InodeLayerStack} {b : Bool} {out : List ℕ} {i : ℕ} → Layering img (w .count) k l (record { base = place; deltas = deltas; count = 0 }) b₀ out stack b i
-          → w .count ≤ i → Taken img w k (record { more = true; inode = k; top = b; stack = stack }) (walkOf out (w .count))
+          → w .count ≤ i → Taken img w k (record { more = true; inode = k; top = b; stack = stack; end = base .next }) (walkOf out (w .count))
       layering-all {i = i} g m =
           let low = g .low in
           let few = h .few in
@@ -204,6 +210,7 @@ module _ {img : List ℕ} {w : Walk} (h : Whole img w) where
             rest = rw y at (t .rest);
             whole = g .whole;
             stacked = record { node = t .node; records = t .records; few = omega (arith, g .few); wide = g .wide };
+            ends = rw (g .base, z) (node-ends img (placeOf place) _ (p .ends));
             pieces = rw y at (t .pieces);
             top = rw y at (t .top);
           }
@@ -240,6 +247,7 @@ module _ {img : List ℕ} {n k : ℕ} {l₀ : List ℕ} {stack₀ : InodeLayerSt
             whole = layer-set (g .whole) (omega arith) (p .sound) n few (λ j m d. m);
             few = omega (arith, u .few, g .few);
             wide = u .wide;
+            base = u .base ∙ g .base;
             taken = λ from t. taking-more from (g .taken from t);
           })
 
@@ -281,10 +289,10 @@ answered ((u ∷ s) ∷ ss) k h = go (leastKey byNumber ss) refl h (answered ss)
         choice Greater h = let z : b ≡ k = cc in below (headIf byNumber k (u ∷ s)) (ih k (e ∙ ap some z))
 
 pub stepped : {img : List ℕ} {w : Walk} → Ready img w → {best : First} → Least w best → {r : Step} {rest : Walk} → Taken img w (best .inode) r rest
-    → Steps img w (record { more = best .found; inode = r .inode; top = r .top; stack = r .stack }) rest
+    → Steps img w (record { more = best .found; inode = r .inode; top = r .top; stack = r .stack; end = r .end }) rest
 stepped {img} {w} g {best} l {r} {rest} t = record {
   stacks = go (best .found) least;
-  taken = record { inode = refl; rest = rw (t .inode) (t .rest); whole = t .whole; stacked = t .stacked; pieces = rw (t .inode) (t .pieces); top = rw (t .inode) (t .top) };
+  taken = record { inode = refl; rest = rw (t .inode) (t .rest); whole = t .whole; stacked = t .stacked; ends = t .ends; pieces = rw (t .inode) (t .pieces); top = rw (t .inode) (t .top) };
   ready = record { whole = t .whole; ascend = rw (t .rest) (ascend-pass byNumber (best .inode) (sourcesOf img w) (g .ascend)) };
   ended = λ e. least ∙ rw e;
 }

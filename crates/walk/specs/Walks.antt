@@ -5,9 +5,12 @@ use mathlib.Core.Option.{Option, none, some}
 use mathlib.Core.Bool.{Bool, true, false}
 use mathlib.Core.List.{List, [], _∷_}
 use Prim.Native.Nat.{ℕ, zero, suc, _≤_, _<_}
-use lib.ListN.{length}
+use lib.ListN.{length, drop}
 use Rattle.wire.specs.Orders.{byNumber}
+use Rattle.wire.specs.Parse.{got}
 use Rattle.image.specs.Meaning.{Node, Record}
+use Rattle.image.specs.NodeLayout.{node}
+use Rattle.passes.specs.Held.{placeOf}
 use Rattle.passes.specs.declared.inode.Held.the-variants as H
 use Rattle.survey.specs.declared.batch.InodeLayerStack.{InodeLayerStack}
 use Rattle.rules.specs.Reads.{isThere}
@@ -94,12 +97,18 @@ pub record Lower (best : First) (r : Run) (out : First) : Type 0 where
 pub record Least (w : Walk) (r : First) : Type 0 where
   pub is : (img : List ℕ) → Whole img w → leastKey byNumber (sourcesOf img w) ≡ keyIf (r .found) (r .inode)
 
+-- the node at a place ends there; no place, no node
+abbrev pub NodeEnds : List ℕ → Option ℕ → ℕ → Type 0
+NodeEnds img none e = Unit {0}
+NodeEnds img (some p) e = (a : Node) × (node .read (drop p img) ≡ got a (drop e img))
+
 -- the places of what stands under the inode k, and the walk past it
 pub record Taken (img : List ℕ) (w : Walk) (k : ℕ) (r : Step) (out : Walk) : Type 0 where
   pub inode : r .inode ≡ k
   pub rest : sourcesOf img out ≡ passAll byNumber k (sourcesOf img w)
   pub whole : Whole img out
   pub stacked : Stacked img (r .stack)
+  pub ends : NodeEnds img (placeOf (r .stack .base)) (r .end)
   pub pieces : piecesIn img (r .stack) ≡ orNothing (answer byNumber laying k (sourcesOf img w))
   pub top : r .top ≡ isThere (headIf byNumber k (topOf (sourcesOf img w)))
 

@@ -17,12 +17,13 @@ pub struct Walk {
     pub count: usize,
 }
 
-// The least inode and its stack, and whether the topmost layer has it; or that no inode is left.
+// The least inode and its stack, whether the topmost layer has it, and where its base node ends; or that no inode is left.
 pub struct Step {
     pub more: bool,
     pub inode: u64,
     pub top: bool,
     pub stack: InodeLayerStack,
+    pub end: usize,
 }
 
 // An inode, if there is one.
@@ -101,6 +102,7 @@ fn take_stack(img: &[u8], runs: &mut [u64; 72], count: usize, inode: u64) -> Ste
         inode,
         top,
         stack,
+        end: base.next,
     }
 }
 

@@ -11,7 +11,7 @@ enum-known-base : tie.Need-enum-known-base
 enum-known-base c = search needs
 
 put-base-node-requires : tie.Need-put-base-node-requires
-put-base-node-requires c κs = (rw (c .before .before .base .given .1) at ((c .before .before .before .before .before .before .before .before .pre) .0 .node), (c .before .before .before .before .before .before .before .before .pre) .1)
+put-base-node-requires c κs = (rw (c .before .before .base .given .1) at ((c .before .before .before .before .before .before .before .before .pre) .1), (c .before .before .before .before .before .before .before .before .pre) .2)
 
 same-length : tie.Need-same-length
 same-length c = search needs
@@ -23,7 +23,7 @@ enum-told : tie.Need-enum-told
 enum-told c = search needs
 
 put-folded-node-requires : tie.Need-put-folded-node-requires
-put-folded-node-requires c κs = search needs
+put-folded-node-requires c κs = ((c .before .before .before .before .before .pre) .0, (c .before .before .before .before .before .pre) .2)
 
 same-length-2 : tie.Need-same-length-2
 same-length-2 c = search needs

@@ -25,7 +25,7 @@ loop-holds c = writing-none (c .before .before .before .before .before .args .dr
 
 -- src/node.rt:101:9
 put-node-of-requires : tie.Need-put-node-of-requires Inv-loop μ-loop
-put-node-of-requires c κs = (c .before .before .before .loop .inv .stacked, writing-room (c .before .before .before .loop .inv) (c .before .before .loop-test .taken))
+put-node-of-requires c κs = (c .before .before .before .loop .inv .stacked, c .before .before .before .loop .inv .ends, writing-room (c .before .before .before .loop .inv) (c .before .before .loop-test .taken))
 
 -- src/node.rt:102:9
 next-stack-requires-2 : tie.Need-next-stack-requires-2 Inv-loop μ-loop

@@ -17,10 +17,10 @@ use Rattle.walk.proofs.run.run_of.Reads as run-of-reads
 use Rattle.walk.proofs.run.set_run.Reads as set-run-reads
 
 abbrev Inv-loop : tie.InvT-loop
-Inv-loop img runs₀ count inode top₀ stack₀ i₀ runs top stack i = Layering img count inode runs₀ stack₀ top₀ runs stack top i
+Inv-loop img runs₀ count inode base top₀ stack₀ i₀ runs top stack i = Layering img count inode runs₀ stack₀ top₀ runs stack top i
 
 abbrev μ-loop : tie.MeasureT-loop
-μ-loop img runs₀ count inode top₀ stack₀ i₀ runs top stack i = count - i
+μ-loop img runs₀ count inode base top₀ stack₀ i₀ runs top stack i = count - i
 
 run-of-requires : tie.Need-run-of-requires Inv-loop μ-loop
 run-of-requires c κs = search needs
