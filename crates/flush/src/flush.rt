@@ -31,8 +31,8 @@ pub fn fold_entries(img: &[u8], target: &mut [u8]) -> ChangeAnswer
     write_flushed(img, walk, Flush::Fold(batches), target)
 }
 
-// Folds every layer into the base, and drops non-directories with 0 links. Its scratch is that of a fold: a walk and the sources of one list with
-// their copies, 30 KiB of stack whatever the image.
+// Folds every layer into the base, and drops non-directories with 0 links. Its scratch is that of a fold: a walk and the sources of one list,
+// under 9 KB of stack whatever the image.
 pub fn snapshot_all(img: &[u8], target: &mut [u8]) -> ChangeAnswer
     ensures { λ r. ⌜ Changes (snapshotAll usual (now (img .entry)) (length (now (target .entry)))) (now (target .entry)) r (now (target .exit)) ⌝ }
 {
