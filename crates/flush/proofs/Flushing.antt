@@ -6,7 +6,7 @@ use mathlib.Core.Option.{none}
 use mathlib.Core.List.{List, [], _∷_, _++_, append-nil}
 use Prim.Native.Nat.{ℕ, _+_, min}
 use native.Mathlib.Omega.{arith}
-use lib.ListN.{length, take, length-append}
+use lib.ListN.{length, take, length-append, drop-of-length-le}
 use lib.Seq.{sets, take-length}
 use Rattle.wire.specs.declared.cursor.Cursor.{Cursor}
 use Rattle.wire.specs.declared.cursor.Cursor.the-variants.{At}
@@ -98,10 +98,6 @@ some-batch : (bs : List Batch) → (length bs ≡ 0 → ⊥) → firstOf ((8, is
 some-batch [] h = absurd (h refl)
 some-batch (b ∷ bs) h = refl
 
-none-of : {A : Type 0} (l : List A) → length l ≡ 0 → l ≡ []
-none-of [] h = refl
-none-of (a ∷ l) h = absurd (omega arith)
-
 module _ {img : List ℕ} {p : Sections} {s : Store} (w : Stands img p s) {n : ℕ} (first : Cursor) (a : Answers img (number-read 16) (At (p .batches)) 0 n first) where
   stands-count : n ≡ length (s .batches)
   stands-count =
@@ -111,7 +107,7 @@ module _ {img : List ℕ} {p : Sections} {s : Store} (w : Stands img p s) {n : �
   -- ---- "Fold applies the front batch to the base."
 
   pub fold-none : {old : List ℕ} → n ≡ 0 → Changes (foldEntries usual img (length old)) old (A.Refused 8) old
-  fold-none h = changes-refused Call.fold w (rw (none-of (s .batches) (sym stands-count ∙ h)))
+  fold-none h = changes-refused Call.fold w (rw (drop-of-length-le (s .batches) {i = 0} (omega (arith, stands-count, h))))
 
   module _ {r : Layers} (o : OpensLayers img p 1 r) where
     front-over : Over img (s .base) (take 1 (layers s)) (r .walk)

@@ -1,15 +1,15 @@
 -- A list whose rows are written after one byte for their count, and again where the count takes more.
 -- Assumes nothing.
-use mathlib.Core.Path.{_≡_, refl, sym, ap, _∙_}
+use mathlib.Core.Path.{_≡_, refl, sym, _∙_}
 use mathlib.Core.Logic.{⊎-elim}
 use mathlib.Core.List.{List, [], _∷_, _++_}
 use Prim.Native.Nat.{ℕ, zero, suc, _+_, _≤_, _<_, min}
 use native.Mathlib.Omega.{arith}
 use lib.ListN.{length, set, length-append}
-use lib.Seq.{sets, length-sets, set-set, set-out}
+use lib.Seq.{sets, set-set}
 use Rattle.wire.specs.Number.{edge, numberBytes, number-small, number-one, lt-or-ge}
 use Rattle.wire.specs.Put.{Put}
-use Rattle.wire.proofs.Puts.{put-append, put-length}
+use Rattle.wire.proofs.Puts.{sets-out, put-append}
 
 -- ---- bytes stored over and before others
 
@@ -38,10 +38,6 @@ covers-one (x ∷ xs) l i j b h k =
 covers : (ys xs l : List ℕ) (i j : ℕ) → i ≤ j → j + length ys ≤ i + length xs → sets (sets l j ys) i xs ≡ sets l i xs
 covers [] xs l i j h k = refl
 covers (y ∷ ys) xs l i j h k = covers ys xs (set l j y) i (suc j) (omega arith) (omega arith) ∙ covers-one xs l i j y h (omega arith)
-
-sets-out : (xs l : List ℕ) (at : ℕ) → length l ≤ at → sets l at xs ≡ l
-sets-out [] l at h = refl
-sets-out (x ∷ xs) l at h = rw (set-out l at x h) (sets-out xs l (suc at) (omega arith))
 
 -- nothing is stored in an empty buffer
 pub measured : {l : List ℕ} {at r : ℕ} {bs : List ℕ} → length l ≡ 0 → r ≡ min (at + length bs) edge → Put l at bs r l

@@ -7,7 +7,7 @@ use Prim.Native.Nat.{ℕ, suc, _+_, _≤_, _<_}
 use native.Mathlib.Omega.{arith}
 use native.Mathlib.Numerals.{add-one}
 use lib.Dec.{ltb}
-use lib.ListN.{length, take, drop, getD, set, length-append, length-drop, length-map}
+use lib.ListN.{length, take, drop, getD, set, length-append, length-drop, length-map, drop-of-length-le}
 use lib.Seq.{drop-cons, take-suc, take-length, take-append-seam, set-at, length-take-le}
 use borrow.Author.Tests.{ltb-false}
 use Rattle.survey.specs.declared.batch.InodeLayerStack.{InodeLayerStack}
@@ -43,10 +43,6 @@ plan-none {img} n z = record { answers = rw (n .answers, n .none-left img); fits
 
 -- ---- room for the rows
 
-no-items : {A : Type 0} (l : List A) → length l ≡ 0 → l ≡ []
-no-items [] h = refl
-no-items (x ∷ l) h = absurd (omega arith)
-
 counted-rows : (room count n : ℕ) → countOf count room ≡ C.Rows n → (ltb room count ≡ false) × (count ≡ n)
 counted-rows room count n = go (ltb room count) refl
   where
@@ -74,7 +70,7 @@ module _ {img : List ℕ} {s : InodeLayerStack} (l : Listing) {all : Sources} (g
       → Plans img (roomFor room (rowsListed l (recordsIn img s) (nodeIn img s))) room p
   planned-none {room} k {n} e o w =
       let z = counted-rows room (length (decidedRows img all)) n (sym k ∙ e) in
-      let none-listed : rowsListed l (recordsIn img s) (nodeIn img s) ≡ [] = no-items (rowsListed l (recordsIn img s) (nodeIn img s)) (rw (gathered-rows l g) at (z .1 ∙ o)) in
+      let none-listed : rowsListed l (recordsIn img s) (nodeIn img s) ≡ [] = drop-of-length-le (rowsListed l (recordsIn img s) (nodeIn img s)) {i = 0} (omega (arith, rw (gathered-rows l g) at (z .1 ∙ o))) in
       rw (← gathered-rows l g, z .0, gathered-rows l g, none-listed) (plan-none w refl)
 
   pub planned-few : {room : ℕ} {c : Counted} → c ≡ countOf (length (decidedRows img all)) room → {p : Plan} → c ≡ C.TooMany → NoRows (A.Refused 5) p

@@ -25,7 +25,7 @@ sets-append : (xs ys l : List ℕ) (at : ℕ) → sets (sets l at xs) (at + leng
 sets-append [] ys l at = rw add-zero
 sets-append (x ∷ xs) ys l at = rw (add-suc, ← suc-add) (sets-append xs ys (set l at x) (suc at))
 
-sets-out : (xs l : List ℕ) (at : ℕ) → length l ≤ at → sets l at xs ≡ l
+pub sets-out : (xs l : List ℕ) (at : ℕ) → length l ≤ at → sets l at xs ≡ l
 sets-out [] l at h = refl
 sets-out (x ∷ xs) l at h = rw (set-out l at x h) (sets-out xs l (suc at) (omega arith))
 
