@@ -2,4 +2,5 @@
 pub mod Sections
 pub mod Finishing
 pub mod Batches
+pub mod Queued
 pub mod Cutting

@@ -2,21 +2,21 @@
 -- Assumes nothing.
 use mathlib.Core.Path.{_≡_, refl, sym, ap, _∙_}
 use mathlib.Core.List.{List, [], _++_, append-nil, append-assoc}
-use Prim.Native.Nat.{ℕ, suc, _+_, _-_, _≤_}
+use Prim.Native.Nat.{ℕ, _+_, _-_, _≤_}
 use native.Mathlib.Omega.{arith}
 use lib.ListN.{length, drop, length-append, length-drop, drop-of-length-le}
 use lib.Seq.{take-at, drop-drop, drop-append-seam}
 use Rattle.wire.specs.declared.cursor.Cursor.{Cursor}
 use Rattle.wire.specs.declared.cursor.Cursor.the-variants.{At, Stop}
 use Rattle.wire.specs.Parse.{Parsed, got, never-got}
-use Rattle.wire.specs.Codec.{Codec, encode-decode}
+use Rattle.wire.specs.Codec.{Codec}
 use Rattle.wire.specs.Reading.{Reads, cursorIn, give, placeAt}
 use Rattle.image.specs.Meaning.{Store}
 use Rattle.image.specs.NodeLayout.{node, base}
 use Rattle.image.specs.RecordLayout.{layerRecord, records}
 use Rattle.image.specs.StoreLayout.{batches, store}
 use Rattle.image.specs.Fits.{FitsStore}
-use Rattle.image.specs.Places.{passed, Ends}
+use Rattle.image.specs.Places.{Ends}
 use Rattle.survey.specs.Survey.{Surveys}
 use Rattle.image.specs.RoundTrip.{readImage, writeImage, read-then-write, read-fits}
 use Rattle.survey.specs.declared.store.Survey.{Survey}

@@ -1,16 +1,16 @@
 -- Fold and snapshot: their new images, and how they end.
 -- Assumes nothing.
-use mathlib.Core.Path.{_≡_, refl, sym, ap, _∙_}
+use mathlib.Core.Path.{_≡_, refl, ap, _∙_}
 use mathlib.Core.Bool.{Bool, true, false, cond}
 use mathlib.Core.Option.{none}
-use mathlib.Core.List.{List, [], _∷_, _++_, append-nil}
+use mathlib.Core.List.{List, [], _∷_, append-nil}
 use Prim.Native.Nat.{ℕ, _+_, min}
 use native.Mathlib.Omega.{arith}
 use lib.ListN.{length, take, length-append, drop-of-length-le}
 use lib.Seq.{sets, take-length}
 use Rattle.wire.specs.declared.cursor.Cursor.{Cursor}
 use Rattle.wire.specs.declared.cursor.Cursor.the-variants.{At}
-use Rattle.wire.specs.Number.{edge, numberBytes, number-read, numberTo}
+use Rattle.wire.specs.Number.{edge, numberBytes, number-read}
 use Rattle.wire.specs.Put.{Put}
 use Rattle.wire.proofs.Puts.{put-append}
 use Rattle.wire.specs.Reading.{Reads, Answers}
@@ -34,12 +34,13 @@ use Rattle.rules.specs.ReadCalls.{mapAnswer}
 use Rattle.rules.specs.ChangeCalls.{newImage, foldEntries, snapshotAll}
 use Rattle.rules.proofs.Asked.{over-fine, verdict-refused, number-refused}
 use Rattle.change.specs.Changed.{Changes, ifFits}
-use Rattle.change.specs.Sections.{Spans, tailOf, Stands, Opens}
+use Rattle.change.specs.Sections.{tailOf, Stands, Opens}
 use Rattle.change.specs.declared.answer.ChangeAnswer.{ChangeAnswer}
 use Rattle.change.specs.declared.answer.ChangeAnswer.the-variants as A
 use Rattle.change.specs.declared.section.Sections.{Sections}
 use Rattle.change.specs.declared.section.Opened.{Opened}
-use Rattle.change.proofs.Sections.{span-part, span-front, span-both, span-reads, store-bytes, stands-fits}
+use Rattle.change.proofs.Queued.{stands-count}
+use Rattle.change.proofs.Sections.{span-part, span-both, span-reads, store-bytes, stands-fits}
 use Rattle.change.proofs.Finishing.{changes-refused, changes-made}
 use Rattle.change.proofs.Batches.{queueBytes, batches-bytes}
 use Rattle.walk.specs.Opens.{OpensLayers, Over}
@@ -99,15 +100,10 @@ some-batch [] h = absurd (h refl)
 some-batch (b ∷ bs) h = refl
 
 module _ {img : List ℕ} {p : Sections} {s : Store} (w : Stands img p s) {n : ℕ} (first : Cursor) (a : Answers img (number-read 16) (At (p .batches)) 0 n first) where
-  stands-count : n ≡ length (s .batches)
-  stands-count =
-      let b : Spans img (p .batches) (numberBytes (length (s .batches)) ++ queueBytes (s .batches)) (p .live) = rw (← (batches-bytes (s .batches))) (w .batches) in
-      span-reads (numberTo 16 refl) (span-front (numberBytes (length (s .batches))) (queueBytes (s .batches)) b) (stands-fits w .batches .count) first (a .reads) .0
-
   -- ---- "Fold applies the front batch to the base."
 
   pub fold-none : {old : List ℕ} → n ≡ 0 → Changes (foldEntries usual img (length old)) old (A.Refused 8) old
-  fold-none h = changes-refused Call.fold w (rw (drop-of-length-le (s .batches) {i = 0} (omega (arith, stands-count, h))))
+  fold-none h = changes-refused Call.fold w (rw (drop-of-length-le (s .batches) {i = 0} (omega (arith, stands-count w first a, h))))
 
   module _ {r : Layers} (o : OpensLayers img p 1 r) where
     front-over : Over img (s .base) (take 1 (layers s)) (r .walk)
@@ -123,22 +119,22 @@ module _ {img : List ℕ} {p : Sections} {s : Store} (w : Stands img p s) {n : �
 
     fold-bytes : (n ≡ 0 → ⊥) → flushed img (r .walk) (F.Fold (p .batches)) ≡ writeImage (setBase (foldFront usual (s .batches) (s .base)) s)
     fold-bytes h =
-        rw (base-written front-over false, span-part (span-both (w .batches) (span-both (w .live) (w .tail))), store-bytes, fold-base (s .batches) (s .live) (λ z. h (stands-count ∙ z)))
+        rw (base-written front-over false, span-part (span-both (w .batches) (span-both (w .live) (w .tail))), store-bytes, fold-base (s .batches) (s .live) (λ z. h (stands-count w first a ∙ z)))
 
     pub fold-made : {old new : List ℕ} {answer : ChangeAnswer} → (n ≡ 0 → ⊥) → Changes (ifFits (flushed img (r .walk) (F.Fold (p .batches))) (length old)) old answer new
         → Changes (foldEntries usual img (length old)) old answer new
     unfolding result
-    fold-made h = changes-made Call.fold w (some-batch (s .batches) (λ z. h (stands-count ∙ z))) (fold-bytes h)
+    fold-made h = changes-made Call.fold w (some-batch (s .batches) (λ z. h (stands-count w first a ∙ z))) (fold-bytes h)
 
   -- ---- "Snapshot folds every layer"
 
   pub all-few : {m : ℕ} {r : Layers} → OpensLayers img p m r → m ≡ n + 1 → Few img (r .walk)
-  all-few {m} o e = walk-few s m (stands-fits w) (o .opens s w (omega (arith, e, stands-count, layers-count (s .batches) (s .live))) .over)
+  all-few {m} o e = walk-few s m (stands-fits w) (o .opens s w (omega (arith, e, stands-count w first a, layers-count (s .batches) (s .live))) .over)
 
   module _ {m : ℕ} {r : Layers} (o : OpensLayers img p m r) (e : m ≡ n + 1) where
     all-over : Over img (s .base) (layers s) (r .walk)
     all-over =
-        let z : m ≡ length (layers s) = omega (arith, e, stands-count, layers-count (s .batches) (s .live)) in
+        let z : m ≡ length (layers s) = omega (arith, e, stands-count w first a, layers-count (s .batches) (s .live)) in
         rw (z, take-length) at (o .opens s w (omega (arith, z)) .over)
 
     module _ {t : TailParts} (next : Cursor) (g : Reads img (tail .read) (At (p .tail)) t next) where

@@ -6,30 +6,24 @@ use mathlib.Core.Bool.{Bool, true, false}
 use mathlib.Core.List.{List, _++_, append-assoc, append-nil}
 use Prim.Native.Nat.{ℕ, _+_, _-_, _≤_, _<_}
 use native.Mathlib.Omega.{arith}
-use lib.ListN.{length, drop, getD, length-append, length-drop}
+use lib.ListN.{getD}
 use denote.Enum.Declared.{tagOf}
 use types.Run.{OneOf}
-use Rattle.wire.specs.declared.cursor.Cursor.{Cursor}
-use Rattle.wire.specs.declared.cursor.Cursor.the-variants.{At, Stop}
 use Rattle.wire.specs.Orders.{byBytes}
 use Rattle.wire.specs.Maps.{Map, empty}
-use Rattle.wire.specs.Number.{numberBytes, number-one}
-use Rattle.wire.specs.Parse.{Parsed, got, never-got}
+use Rattle.wire.specs.Number.{numberBytes}
 use Rattle.wire.specs.Put.{Put}
 use Rattle.wire.proofs.Puts.{put-append}
-use Rattle.wire.specs.Reading.{placeAt, part, give, cursorIn}
 use Rattle.image.specs.Meaning as M
 use Rattle.image.specs.Meaning.{Entries, Attributes, kindNumber, kindOf, changedKind, directory, delta}
 use Rattle.image.specs.FieldLayout.{attributes, entries}
 use Rattle.image.specs.KindLayout.{kind}
 use Rattle.image.specs.NodeLayout.{node}
-use Rattle.image.specs.Places.{Ends}
 use Rattle.passes.specs.Held.{placeOf}
 use Rattle.image.specs.Under.{UnderName}
 use Rattle.image.specs.declared.name.Under.{Under}
 use Rattle.image.specs.declared.name.Under.the-variants as U
 use Rattle.survey.specs.declared.batch.InodeLayerStack.{InodeLayerStack}
-use Rattle.passes.specs.declared.inode.Place.the-variants as P
 use Rattle.rules.specs.Initial.{usual}
 use Rattle.rules.specs.Fold.{sameKind, applied, foldRecord}
 use Rattle.rules.specs.PlacedStacks.{recordsOn, nodeAt, unplaced, unplacedNode}
@@ -52,7 +46,7 @@ use Rattle.attrs.specs.Meant.{kindMeant}
 use Rattle.attrs.specs.declared.node.FileType.{FileType}
 use Rattle.writers.specs.Writes.{metaBytes, meta-with-bytes}
 use Rattle.records.specs.Records.{bodyBytes}
-use Rattle.writers.proofs.Writing.{part-written, list-written}
+use Rattle.writers.proofs.Writing.{list-written}
 use Rattle.stack.specs.Stacks.{Stacked, recordsUnder, recordsIn, nodeIn, RecordIs, BaseIs}
 use Rattle.stack.specs.declared.stack.OptionNode.{OptionNode}
 use Rattle.stack.specs.declared.stack.OptionNode.the-variants as B

@@ -5,11 +5,9 @@ use mathlib.Core.List.{List, []}
 use mathlib.Core.Option.{Option, none, some}
 use mathlib.Core.Bool.{cond}
 use Prim.Native.Nat.{ℕ, _+_}
-use lib.ListN.{drop}
 use Rattle.wire.specs.Orders.{byBytes}
 use Rattle.wire.specs.Maps.{Map, empty}
 use Rattle.wire.specs.Number.{numberBytes}
-use Rattle.wire.specs.Parse.{got}
 use Rattle.wire.specs.Put.{Put}
 use Rattle.image.specs.Meaning as M
 use Rattle.image.specs.Meaning.{Entries, Attributes, kindOf, changedKind, directory}

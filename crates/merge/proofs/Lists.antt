@@ -1,13 +1,13 @@
 -- The list at a place, as a source, has the rows of the map that is read there.
 -- Assumes nothing.
-use mathlib.Core.Path.{_≡_, refl, sym, ap, _∙_}
+use mathlib.Core.Path.{_≡_, refl, _∙_}
 use mathlib.Core.Option.{Option, none, some}
 use mathlib.Core.List.{List, [], _∷_, _++_, map, append-assoc}
 use Prim.Native.Nat.{ℕ, _+_}
 use lib.ListN.{length, drop}
 use Rattle.wire.specs.Parse.{got}
 use Rattle.wire.specs.Combinators.{_then_}
-use Rattle.wire.specs.Number.{numberBytes, number-read, number-back}
+use Rattle.wire.specs.Number.{numberBytes, number-back}
 use Rattle.wire.specs.Orders.{byBytes}
 use Rattle.wire.specs.Maps.{Map}
 use Rattle.wire.specs.Lists.{Every, FitsRow, chain-write, row, onto, lastCount}

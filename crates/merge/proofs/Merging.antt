@@ -1,19 +1,19 @@
 -- The loops over the sources, and one row more or less of each.
 -- Assumes nothing.
-use mathlib.Core.Path.{_≡_, refl, sym, ap, _∙_}
+use mathlib.Core.Path.{_≡_, refl, sym, _∙_}
 use mathlib.Core.Bool.{Bool, true, false}
 use mathlib.Core.List.{List, [], _∷_, _++_, map, append-assoc, append-nil}
 use Prim.Native.Nat.{ℕ, zero, suc, _+_, _-_, _≤_, _<_}
 use native.Mathlib.Omega.{arith}
 use native.Mathlib.Numerals.{add-one}
-use lib.ListN.{length, length-append, take, drop, getD, set, replicate, length-replicate, length-set, drop-of-length-le}
+use lib.ListN.{length, take, drop, getD, set, replicate, length-replicate, length-set, drop-of-length-le}
 use lib.Seq.{drop-cons, getD-take, length-take-le, take-suc-set}
 use Rattle.wire.specs.declared.order.Ordering.{Ordering}
 use Rattle.wire.specs.declared.order.Ordering.the-variants.{Less, Equal, Greater}
 use Rattle.wire.specs.Orders.{byBytes}
 use Rattle.wire.specs.Reading.{part}
 use Rattle.image.specs.Meaning.{Text}
-use Rattle.merge.specs.Pile.{pass, passAll, first, upper, least}
+use Rattle.merge.specs.Pile.{pass, passAll, first, least}
 use Rattle.merge.specs.Sources.{Decided, rowsFrom, sourceRows, rowAt, rowsIfMore, NoRow, Inside, HeadOf}
 use Rattle.merge.specs.Slots.{sourcesIn, sourceAt, withSourceAt}
 use Rattle.merge.specs.Merges.{sourcesOf, sources, Whole, NoSources, howMany, rowsIn, rowIf, headRow, PushesLists, PushesOne, Upper, Least, Passed, PassedAll}

@@ -12,7 +12,7 @@ use Rattle.wire.specs.Order.{Order}
 use Rattle.wire.specs.Rows.{choose, lookup, set, Under, Rising}
 use Rattle.wire.specs.RowLaws.{lookup-set, set-rising, lookup-under, under-below, under-insert, under-remove, ext}
 use Rattle.wire.specs.Maps.{Map, meet, merge, over, put, get, empty}
-use Rattle.merge.specs.Pile.{firstKey, pickKey, lower, leastKey, headIf, pass, passAll, Ascend, laid, pile, answer, merged, rowsOf, row, total}
+use Rattle.merge.specs.Pile.{pickKey, lower, leastKey, headIf, pass, passAll, Ascend, laid, pile, answer, merged, rowsOf, row, total}
 
 module _ {K : Type 0} (O : Order K) where
   -- k is not above e

@@ -1,9 +1,9 @@
 -- The rows that sources decide, one after the other.
 -- Assumes nothing.
-use mathlib.Core.Path.{_≡_, refl, sym, ap, _∙_}
+use mathlib.Core.Path.{_≡_, refl, ap, _∙_}
 use mathlib.Core.Option.{none, some}
-use mathlib.Core.Bool.{Bool, true, false}
-use mathlib.Core.List.{List, [], _∷_, map}
+use mathlib.Core.Bool.{true, false}
+use mathlib.Core.List.{List, map}
 use Prim.Native.Nat.{ℕ, _+_, _≤_, _<_}
 use native.Mathlib.Omega.{arith}
 use lib.ListN.{length, drop, length-drop}
@@ -11,7 +11,7 @@ use lib.Seq.{length-take-le}
 use borrow.Author.Tests.{lt-ltb, le-ltb}
 use Rattle.wire.specs.Orders.{byBytes}
 use Rattle.wire.specs.Reading.{part}
-use Rattle.merge.specs.Pile.{passAll, total, least, decisions}
+use Rattle.merge.specs.Pile.{total, least}
 use Rattle.merge.specs.Sources.{rowAt}
 use Rattle.merge.specs.Merges.{sourcesOf, Least, PassedAll, Ready, givenBy, plainRow, decidedRows, mergeRows, mergeOf, Gives, countOf}
 use Rattle.merge.specs.declared.source.Head.{Head}

@@ -1,7 +1,7 @@
 -- How a source is read in the image, row by row.
 -- Assumes nothing.
-use mathlib.Core.Path.{_≡_, refl, sym, ap, _∙_}
-use mathlib.Core.Option.{Option, none, some}
+use mathlib.Core.Path.{_≡_, refl, sym, ap}
+use mathlib.Core.Option.{Option, some}
 use mathlib.Core.Bool.{Bool, true, false}
 use mathlib.Core.List.{List, [], _∷_, _++_}
 use Prim.Native.Nat.{ℕ, zero, suc, _+_, _-_, _≤_}
@@ -11,13 +11,13 @@ use lib.Seq.{length-take-le}
 use Rattle.wire.specs.declared.cursor.Fault.{Fault}
 use Rattle.wire.specs.declared.cursor.Cursor.{Cursor}
 use Rattle.wire.specs.declared.cursor.Cursor.the-variants.{At, Stop}
-use Rattle.wire.specs.Parse.{Parsed, fault, got, bind, never-got, bind-inv}
+use Rattle.wire.specs.Parse.{Parsed, fault, got, bind, never-got}
 use Rattle.wire.specs.Codec.{Codec}
 use Rattle.wire.specs.Combinators.{_then_}
 use Rattle.wire.specs.Number.{edge, numberBytes, number-read, number-one, numberTo}
 use Rattle.wire.specs.Text.{text-read}
 use Rattle.wire.specs.Lists.{lastCount}
-use Rattle.wire.specs.Reading.{Reads, Answers, AnswersPart, cursorIn, give, part}
+use Rattle.wire.specs.Reading.{Reads, Answers, AnswersPart, cursorIn, part}
 use Rattle.wire.proofs.Readers.{read-end}
 use Rattle.image.specs.Places.{maybe-read}
 use Rattle.image.specs.FieldLayout.{name}

@@ -6,7 +6,7 @@ use mathlib.Core.List.{List, [], _∷_, _++_, append-nil, append-assoc}
 use mathlib.Core.Option.{none}
 use Prim.Native.Nat.{ℕ, zero, suc, _+_, _≤_, _<_}
 use native.Mathlib.Omega.{arith}
-use lib.ListN.{length, drop, length-append}
+use lib.ListN.{length, drop, length-append, drop-of-length-le}
 use borrow.Author.Tests.{le-leb, lt-leb, eq-eqb, ne-eqb}
 use Rattle.wire.specs.declared.cursor.Cursor.{Cursor}
 use Rattle.wire.specs.declared.cursor.Cursor.the-variants.{At}
@@ -48,7 +48,7 @@ use Rattle.change.proofs.Finishing.{changes-refused, changes-made}
 use Rattle.queue.proofs.Staging.{stands-tail}
 use Rattle.change.proofs.Batches.{headOf, batchBytes, queueBytes, batches-bytes, queue-more}
 use Rattle.waiting.proofs.Queues.{sum-queue}
-use Rattle.queue.proofs.Popping.{none-of, stands-count, stands-queue}
+use Rattle.change.proofs.Queued.{stands-count, stands-queue}
 
 not-empty : {A : Type 0} (l : List A) → (length l ≡ 0 → ⊥) → isEmpty l ≡ false
 not-empty [] h = absurd (h refl)
@@ -118,7 +118,7 @@ module _ {img : List ℕ} {p : Sections} {s : Store} (w : Stands img p s) (depth
       pub freeze-empty : {old : List ℕ} → m ≡ 0 → Changes (freezeLive usual img depth bytes operations time (length old)) old (A.Refused 7) old
       freeze-empty z =
           changes-refused (Call.freeze limits time) w
-          (rw (lt-leb 1000000000 (time .nanos) ok, full-is, h, none-of (s .live .rows) (sym live-count ∙ z)))
+          (rw (lt-leb 1000000000 (time .nanos) ok, full-is, h, drop-of-length-le (s .live .rows) {i = 0} (omega (arith, live-count, z))))
 
       module _ (some-live : m ≡ 0 → ⊥) {staged : Tail} (end : Cursor) (r : Reads img (tail .read) (At (p .tail)) (tailMeant staged) end) where
         staged-is : tailMeant staged ≡ tailOf s

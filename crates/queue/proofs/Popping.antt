@@ -4,11 +4,11 @@ use mathlib.Core.Path.{_≡_, refl, sym, ap, _∙_}
 use mathlib.Core.List.{List, [], _∷_, _++_, append-assoc}
 use Prim.Native.Nat.{ℕ, _+_, _-_}
 use native.Mathlib.Omega.{arith}
-use lib.ListN.{length}
+use lib.ListN.{length, drop-of-length-le}
 use borrow.Author.Tests.{eq-eqb, ne-eqb}
 use Rattle.wire.specs.declared.cursor.Cursor.{Cursor}
 use Rattle.wire.specs.declared.cursor.Cursor.the-variants.{At}
-use Rattle.wire.specs.Number.{numberBytes, number-read, numberTo}
+use Rattle.wire.specs.Number.{numberBytes, number-read}
 use Rattle.wire.specs.Reading.{Reads, Answers, placeAt}
 use Rattle.image.specs.Meaning.{Batch, Store}
 use Rattle.image.specs.Fits.{FitsBatch}
@@ -28,42 +28,22 @@ use Rattle.waiting.specs.NewQueues.{requeued}
 use Rattle.change.specs.declared.answer.ChangeAnswer.{ChangeAnswer}
 use Rattle.change.specs.declared.answer.ChangeAnswer.the-variants as A
 use Rattle.change.specs.declared.section.Sections.{Sections}
-use Rattle.change.proofs.Sections.{span-part, span-front, span-back, span-both, reads-got, span-reads, store-bytes, stands-fits}
+use Rattle.change.proofs.Sections.{span-part, span-front, span-back, span-both, reads-got, store-bytes, stands-fits}
 use Rattle.change.proofs.Finishing.{changes-refused, changes-made}
+use Rattle.change.proofs.Queued.{stands-count, stands-first, stands-queue}
 use Rattle.change.proofs.Batches.{headOf, batchBytes, queueBytes, batches-bytes, pass-back}
-
-pub none-of : {A : Type 0} (l : List A) → length l ≡ 0 → l ≡ []
-none-of [] h = refl
-none-of (a ∷ l) h = absurd (omega arith)
 
 first-of : {A : Type 0} (l : List A) → (length l ≡ 0 → ⊥) → (a : A) × (t : List A) × (l ≡ a ∷ t)
 first-of [] h = absurd (h refl)
 first-of (a ∷ l) h = (a, l, refl)
 
 module _ {img : List ℕ} {p : Sections} {s : Store} (w : Stands img p s) where
-  queue-span : Spans img (p .batches) (numberBytes (length (s .batches)) ++ queueBytes (s .batches)) (p .live)
-  queue-span = rw (← (batches-bytes (s .batches))) (w .batches)
-
-  -- the count of batches, and the batches after it
   module _ {n : ℕ} (first : Cursor) (a : Answers img (number-read 16) (At (p .batches)) 0 n first) where
-    counted : (n ≡ length (s .batches)) × (first ≡ At (p .batches + length (numberBytes (length (s .batches)))))
-    counted =
-        span-reads (numberTo 16 refl) (span-front (numberBytes (length (s .batches))) (queueBytes (s .batches)) queue-span) (stands-fits w .batches .count) first (a .reads)
-
-    pub stands-count : n ≡ length (s .batches)
-    stands-count = counted .0
-
-    pub stands-first : first ≡ At (placeAt first)
-    stands-first = counted .1 ∙ sym (ap (λ (c : Cursor). At (placeAt c)) (counted .1))
-
-    pub stands-queue : Spans img (placeAt first) (queueBytes (s .batches)) (p .live)
-    stands-queue = rw (ap placeAt (counted .1)) (span-back (numberBytes (length (s .batches))) (queueBytes (s .batches)) queue-span)
-
     -- the front batch, and those after it
     module _ {b : Batch} {bs : List Batch} (e : s .batches ≡ b ∷ bs) {h : HeadParts} (end : Cursor) (r : Reads img passBatch first h end) where
       front-span : Spans img (placeAt first) (batchBytes b ++ queueBytes bs) (p .live)
       unfolding queueBytes
-      front-span = rw e at stands-queue
+      front-span = rw e at (stands-queue w first a)
 
       front-fits : FitsBatch b
       front-fits = (rw e at (stands-fits w .batches .each)) .0
@@ -71,14 +51,14 @@ module _ {img : List ℕ} {p : Sections} {s : Store} (w : Stands img p s) where
       front-read : (h ≡ headOf b) × (end ≡ At (placeAt first + length (batchBytes b)))
       front-read =
           let f = span-front (batchBytes b) (queueBytes bs) front-span in
-          reads-got img (ap passBatch (f .is) ∙ pass-back b _ front-fits) (f .within) end (rw stands-first at r)
+          reads-got img (ap passBatch (f .is) ∙ pass-back b _ front-fits) (f .within) end (rw (stands-first w first a) at r)
 
       rest-span : Spans img (placeAt end) (queueBytes bs) (p .live)
       rest-span = rw (ap placeAt (front-read .1)) (span-back (batchBytes b) (queueBytes bs) front-span)
 
       popped-bytes : requeued img p (record { count = n - 1; rest = placeAt end }) ≡ writeImage (setBatches bs s)
       popped-bytes =
-          let z : n - 1 ≡ length bs = omega (arith, stands-count, ap length e) in
+          let z : n - 1 ≡ length bs = omega (arith, stands-count w first a, ap length e) in
           rw (z, span-part (w .base), span-part (span-both rest-span (span-both (w .live) (w .tail))), store-bytes, batches-bytes)
           (ap (λ (t : List ℕ). base .write (s .base) ++ t)
           (sym (append-assoc (numberBytes (length bs)) (queueBytes bs) (records .write (s .live) ++ tail .write (tailOf s)))))
@@ -86,11 +66,11 @@ module _ {img : List ℕ} {p : Sections} {s : Store} (w : Stands img p s) where
     -- ---- "Pop removes the front"
 
     pub pop-none : (id : ℕ) {old : List ℕ} → n ≡ 0 → Changes (popFlushedBatch usual img id (length old)) old (A.Refused 8) old
-    pop-none id h = changes-refused (Call.pop id) w (rw (none-of (s .batches) (sym stands-count ∙ h)))
+    pop-none id h = changes-refused (Call.pop id) w (rw (drop-of-length-le (s .batches) {i = 0} (omega (arith, stands-count w first a, h))))
 
     module _ (some-left : n ≡ 0 → ⊥) {h : HeadParts} (end : Cursor) (r : Reads img passBatch first h end) where
       front : (b : Batch) × (bs : List Batch) × (s .batches ≡ b ∷ bs)
-      front = first-of (s .batches) (λ z. some-left (stands-count ∙ z))
+      front = first-of (s .batches) (λ z. some-left (stands-count w first a ∙ z))
 
       front-id : h .0 ≡ front .0 .id
       front-id = ap (λ (x : HeadParts). x .0) (front-read (front .2) end r .0)

@@ -97,9 +97,16 @@ fn length(r: raw::Change) -> Result<usize> {
 /// What every call below rests on: each function takes any bytes, reads and writes only inside the slices whose pointer and length it is
 /// given, and keeps none of them, which is proved of it. A Rust slice is never null, and `&mut` overlaps nothing.
 macro_rules! call {
-    ($function:ident($($argument:expr),*)) => {
+    ($image:ident, $function:ident($($argument:expr),*)) => {
         // SAFETY: as above.
-        unsafe { raw::$function($($argument),*) }
+        unsafe { raw::$function($image.bytes.as_ptr(), $image.bytes.len(), $($argument),*) }
+    };
+}
+
+/// A change has the target last, and answers the length of the new image in it.
+macro_rules! change {
+    ($image:ident, $function:ident($($argument:expr),*), $target:ident) => {
+        length(call!($image, $function($($argument,)* $target.as_mut_ptr(), $target.len())))
     };
 }
 
@@ -130,52 +137,52 @@ impl<'a> Image<'a> {
 
     /// Whether the inode exists.
     pub fn exists(self, ino: u64) -> Result<bool> {
-        yes_no(call!(appendfs_exists(self.bytes.as_ptr(), self.bytes.len(), ino)))
+        yes_no(call!(self, appendfs_exists(ino)))
     }
 
     /// The type of the inode.
     pub fn file_type(self, ino: u64) -> Result<Option<FileType>> {
-        let r = call!(appendfs_file_type(self.bytes.as_ptr(), self.bytes.len(), ino));
+        let r = call!(self, appendfs_file_type(ino));
         unless(r.refusal, r.found.then(|| FileType::of(r.kind)))
     }
 
     /// The attributes of the inode.
     pub fn attr(self, ino: u64) -> Result<Option<FileAttr>> {
-        let r = call!(appendfs_attr(self.bytes.as_ptr(), self.bytes.len(), ino));
+        let r = call!(self, appendfs_attr(ino));
         unless(r.refusal, r.found.then(|| FileAttr::of(r.attr)))
     }
 
     /// The parent of a directory. Inode 1 always has parent 1.
     pub fn parent_dir_inode(self, ino: u64) -> Result<Option<u64>> {
-        inode(call!(appendfs_parent_dir_inode(self.bytes.as_ptr(), self.bytes.len(), ino)))
+        inode(call!(self, appendfs_parent_dir_inode(ino)))
     }
 
     /// The inode that a name leads to in a directory.
     pub fn lookup_child(self, parent: u64, name: impl AsRef<[u8]>) -> Result<Option<u64>> {
         let name = name.as_ref();
-        inode(call!(appendfs_lookup_child(self.bytes.as_ptr(), self.bytes.len(), parent, name.as_ptr(), name.len())))
+        inode(call!(self, appendfs_lookup_child(parent, name.as_ptr(), name.len())))
     }
 
     /// The text of a link: a part of the image.
     pub fn read_link(self, ino: u64) -> Result<Option<&'a [u8]>> {
-        self.text(call!(appendfs_read_link(self.bytes.as_ptr(), self.bytes.len(), ino)))
+        self.text(call!(self, appendfs_read_link(ino)))
     }
 
     /// Whether there is a link's text.
     pub fn has_link(self, ino: u64) -> Result<bool> {
-        yes_no(call!(appendfs_has_link(self.bytes.as_ptr(), self.bytes.len(), ino)))
+        yes_no(call!(self, appendfs_has_link(ino)))
     }
 
     /// The value of an extended attribute: a part of the image.
     pub fn get_xattr(self, ino: u64, name: impl AsRef<[u8]>) -> Result<Option<&'a [u8]>> {
         let name = name.as_ref();
-        self.text(call!(appendfs_get_xattr(self.bytes.as_ptr(), self.bytes.len(), ino, name.as_ptr(), name.len())))
+        self.text(call!(self, appendfs_get_xattr(ino, name.as_ptr(), name.len())))
     }
 
     /// Whether there is such an attribute.
     pub fn has_xattr(self, ino: u64, name: impl AsRef<[u8]>) -> Result<bool> {
         let name = name.as_ref();
-        yes_no(call!(appendfs_has_xattr(self.bytes.as_ptr(), self.bytes.len(), ino, name.as_ptr(), name.len())))
+        yes_no(call!(self, appendfs_has_xattr(ino, name.as_ptr(), name.len())))
     }
 
     /// The entries of a directory, rising by bytes. They fill the first of the rows lent; [`Refusal::NoRoom`] if there are too few.
@@ -192,15 +199,14 @@ impl<'a> Image<'a> {
     /// # Ok::<(), appendfs_layers::Refusal>(())
     /// ```
     pub fn list_directory<'r>(self, ino: u64, rows: &'r mut [Entry]) -> Result<Option<DirEntries<'a, 'r>>> {
-        let r =
-            call!(appendfs_list_directory(self.bytes.as_ptr(), self.bytes.len(), ino, rows.as_mut_ptr(), rows.len()));
+        let r = call!(self, appendfs_list_directory(ino, rows.as_mut_ptr(), rows.len()));
         let rows = filled(r, rows)?;
         Ok(rows.map(|rows| DirEntries { image: self.bytes, rows: rows.iter() }))
     }
 
     /// The names of the extended attributes, rising by bytes, in the first of the rows lent.
     pub fn list_xattrs<'r>(self, ino: u64, rows: &'r mut [Entry]) -> Result<Option<XattrNames<'a, 'r>>> {
-        let r = call!(appendfs_list_xattrs(self.bytes.as_ptr(), self.bytes.len(), ino, rows.as_mut_ptr(), rows.len()));
+        let r = call!(self, appendfs_list_xattrs(ino, rows.as_mut_ptr(), rows.len()));
         let rows = filled(r, rows)?;
         Ok(rows.map(|rows| XattrNames { image: self.bytes, rows: rows.iter() }))
     }
@@ -209,20 +215,12 @@ impl<'a> Image<'a> {
 
     /// Puts a record in the place of the live one. `delta` is the record from its code on.
     pub fn insert_new_node(self, ino: u64, delta: &[u8], target: &mut [u8]) -> Result<usize> {
-        length(call!(appendfs_insert_new_node(
-            self.bytes.as_ptr(),
-            self.bytes.len(),
-            ino,
-            delta.as_ptr(),
-            delta.len(),
-            target.as_mut_ptr(),
-            target.len()
-        )))
+        change!(self, appendfs_insert_new_node(ino, delta.as_ptr(), delta.len()), target)
     }
 
     /// Puts a tombstone in the place of the live record.
     pub fn tombstone(self, ino: u64, target: &mut [u8]) -> Result<usize> {
-        length(call!(appendfs_tombstone(self.bytes.as_ptr(), self.bytes.len(), ino, target.as_mut_ptr(), target.len())))
+        change!(self, appendfs_tombstone(ino), target)
     }
 
     /// Adds a name that leads to `child_ino` to the live directory delta of `parent`.
@@ -235,129 +233,67 @@ impl<'a> Image<'a> {
         target: &mut [u8],
     ) -> Result<usize> {
         let name = name.as_ref();
-        length(call!(appendfs_add_dir_entry(
-            self.bytes.as_ptr(),
-            self.bytes.len(),
-            parent,
-            name.as_ptr(),
-            name.len(),
-            child_ino,
-            now.seconds,
-            now.nanos,
-            target.as_mut_ptr(),
-            target.len()
-        )))
+        change!(
+            self,
+            appendfs_add_dir_entry(parent, name.as_ptr(), name.len(), child_ino, now.seconds, now.nanos),
+            target
+        )
     }
 
     /// Removes a name, in the live directory delta of `parent`.
     pub fn remove_dir_entry(self, parent: u64, name: impl AsRef<[u8]>, now: Time, target: &mut [u8]) -> Result<usize> {
         let name = name.as_ref();
-        length(call!(appendfs_remove_dir_entry(
-            self.bytes.as_ptr(),
-            self.bytes.len(),
-            parent,
-            name.as_ptr(),
-            name.len(),
-            now.seconds,
-            now.nanos,
-            target.as_mut_ptr(),
-            target.len()
-        )))
+        change!(self, appendfs_remove_dir_entry(parent, name.as_ptr(), name.len(), now.seconds, now.nanos), target)
     }
 
     /// Sets the parent in the live directory delta.
     pub fn update_dir_parent(self, ino: u64, new_parent: u64, target: &mut [u8]) -> Result<usize> {
-        length(call!(appendfs_update_dir_parent(
-            self.bytes.as_ptr(),
-            self.bytes.len(),
-            ino,
-            new_parent,
-            target.as_mut_ptr(),
-            target.len()
-        )))
+        change!(self, appendfs_update_dir_parent(ino, new_parent), target)
     }
 
     /// Merges into the live delta. `delta` is a mask and its fields.
     pub fn update_attr_delta(self, ino: u64, delta: &[u8], target: &mut [u8]) -> Result<usize> {
-        length(call!(appendfs_update_attr_delta(
-            self.bytes.as_ptr(),
-            self.bytes.len(),
-            ino,
-            delta.as_ptr(),
-            delta.len(),
-            target.as_mut_ptr(),
-            target.len()
-        )))
+        change!(self, appendfs_update_attr_delta(ino, delta.as_ptr(), delta.len()), target)
     }
 
     /// Holds the directory deltas of the layer at a position against the layers below. Live is at the number of batches.
     pub fn normalize_directory_deltas(self, position: u64, target: &mut [u8]) -> Result<usize> {
-        length(call!(appendfs_normalize_directory_deltas(
-            self.bytes.as_ptr(),
-            self.bytes.len(),
-            position,
-            target.as_mut_ptr(),
-            target.len()
-        )))
+        change!(self, appendfs_normalize_directory_deltas(position), target)
     }
 
     // ---- changes of the queue and the base
 
     /// Makes live the last batch, unless the queue is at capacity.
     pub fn freeze_live(self, limits: Limits, wall_now: Time, target: &mut [u8]) -> Result<usize> {
-        length(call!(appendfs_freeze_live(
-            self.bytes.as_ptr(),
-            self.bytes.len(),
-            limits.depth,
-            limits.bytes,
-            limits.operations,
-            wall_now.seconds,
-            wall_now.nanos,
-            target.as_mut_ptr(),
-            target.len()
-        )))
+        change!(
+            self,
+            appendfs_freeze_live(limits.depth, limits.bytes, limits.operations, wall_now.seconds, wall_now.nanos),
+            target
+        )
     }
 
     /// Applies the front batch to the base. The batch stays in the queue.
     pub fn fold_entries(self, target: &mut [u8]) -> Result<usize> {
-        length(call!(appendfs_fold_entries(self.bytes.as_ptr(), self.bytes.len(), target.as_mut_ptr(), target.len())))
+        change!(self, appendfs_fold_entries(), target)
     }
 
     /// Drops the front batch, whose id it must be.
     pub fn pop_flushed_batch(self, batch_id: u64, target: &mut [u8]) -> Result<usize> {
-        length(call!(appendfs_pop_flushed_batch(
-            self.bytes.as_ptr(),
-            self.bytes.len(),
-            batch_id,
-            target.as_mut_ptr(),
-            target.len()
-        )))
+        change!(self, appendfs_pop_flushed_batch(batch_id), target)
     }
 
     /// Stages one operation more, and so many bytes.
     pub fn record_mutation(self, additional_bytes: u64, target: &mut [u8]) -> Result<usize> {
-        length(call!(appendfs_record_mutation(
-            self.bytes.as_ptr(),
-            self.bytes.len(),
-            additional_bytes,
-            target.as_mut_ptr(),
-            target.len()
-        )))
+        change!(self, appendfs_record_mutation(additional_bytes), target)
     }
 
     /// Requests a freeze for a reason; `None` takes a request back.
     pub fn request(self, reason: Option<FlushReason>, target: &mut [u8]) -> Result<usize> {
-        length(call!(appendfs_request(
-            self.bytes.as_ptr(),
-            self.bytes.len(),
-            reason.map_or(0, |reason| reason as u64),
-            target.as_mut_ptr(),
-            target.len()
-        )))
+        change!(self, appendfs_request(reason.map_or(0, |reason| reason as u64)), target)
     }
 
     /// Folds every layer into the base, and drops non-directories with 0 links.
     pub fn snapshot_all(self, target: &mut [u8]) -> Result<usize> {
-        length(call!(appendfs_snapshot_all(self.bytes.as_ptr(), self.bytes.len(), target.as_mut_ptr(), target.len())))
+        change!(self, appendfs_snapshot_all(), target)
     }
 }

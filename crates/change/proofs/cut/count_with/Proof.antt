@@ -1,7 +1,6 @@
 use borrow.Author.Needs.{needs}
 use Rattle.change.proofs.cut.count_with.Statement.{statement}
 use Rattle.change.proofs.cut.count_with.Tie as tie
-use native.Mathlib.Omega.{arith}
 
 enum-told : tie.Need-enum-told
 enum-told c = search needs

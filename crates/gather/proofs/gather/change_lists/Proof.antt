@@ -1,4 +1,4 @@
-use mathlib.Core.Path.{refl, sym, _∙_}
+use mathlib.Core.Path.{refl, sym}
 use Rattle.gather.proofs.Others.{other-lists}
 use borrow.Author.Needs.{needs}
 use Rattle.gather.proofs.gather.change_lists.Statement.{statement}

@@ -1,4 +1,4 @@
-use mathlib.Core.Path.{refl, sym, _∙_}
+use mathlib.Core.Path.{refl}
 use borrow.Author.Needs.{needs}
 use Rattle.gather.proofs.gather.node_lists.Statement.{statement}
 use Rattle.gather.proofs.gather.node_lists.Tie as tie
