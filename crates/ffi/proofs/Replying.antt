@@ -6,7 +6,7 @@ use mathlib.Core.List.{List, [], _∷_}
 use mathlib.Core.Option.{Option, none, some}
 use Prim.Native.Nat.{ℕ, zero, suc, _+_, _-_, _≤_}
 use native.Mathlib.Omega.{arith}
-use lib.ListN.{length, take, drop, length-take, length-drop}
+use lib.ListN.{length, take, drop, length-take, length-drop, drop-of-length-le}
 use lib.IntN.{ℤ}
 use mir.Syntax.{w64}
 use mir.Val.{SFits, toZ, ofZ}
@@ -18,7 +18,6 @@ use Rattle.rules.specs.Answers.{Answer, refused, answer}
 use Rattle.rules.specs.ReadCalls.{textOf}
 use Rattle.change.specs.Changed.{Changes, answered}
 use Rattle.change.specs.declared.answer.ChangeAnswer.{ChangeAnswer}
-use Rattle.queue.proofs.Popping.{none-of}
 use Rattle.ffi.specs.declared.reply.ChangeReply.{ChangeReply}
 use Rattle.ffi.specs.declared.reply.TextReply.{TextReply}
 use Rattle.ffi.specs.Replies.{ChangeReplies, replyOf, changeReply, TextReplies, noText, timeGiven, refusalOf, isFound}
@@ -69,7 +68,7 @@ module _ (img : List ℕ) where
     empty-found no-bytes = record {
       refusal = refl;
       found = refl;
-      text = rw no-bytes (sym (none-of bytes no-bytes) ∙ e);
+      text = rw no-bytes (sym (drop-of-length-le bytes {i = 0} (omega (arith, no-bytes))) ∙ e);
       size = rw e;
       inside = omega (arith, no-bytes);
     }
