@@ -3,7 +3,7 @@
 use mathlib.Core.Path.{_≡_, refl, sym, ap, subst, _∙_}
 use mathlib.Core.List.{List, [], _∷_, _++_, append-assoc, append-nil}
 use mathlib.Core.Option.{Option, none, some}
-use Prim.Native.Nat.{ℕ, suc, _+_, _-_, _≤_, _<_}
+use Prim.Native.Nat.{ℕ, _+_, _-_, _≤_, _<_}
 use native.Mathlib.Omega.{arith}
 use lib.ListN.{length, drop, length-append}
 use Rattle.wire.specs.declared.order.Ordering.{Ordering}
@@ -12,7 +12,7 @@ use Rattle.wire.specs.declared.cursor.Cursor.{Cursor}
 use Rattle.wire.specs.declared.cursor.Cursor.the-variants.{At}
 use Rattle.wire.specs.Order.{Order}
 use Rattle.wire.specs.Maps.{Map, get, put, map-ext, get-put}
-use Rattle.wire.specs.Rows.{place, insert, Rising, lookup, choose}
+use Rattle.wire.specs.Rows.{Under, Rising, lookup, choose}
 use Rattle.wire.specs.Number.{numberBytes, number-read, numberTo}
 use Rattle.wire.specs.Codec.{Codec}
 use Rattle.wire.specs.Lists.{Every, FitsRow, chain-write, row, onto, lastCount}
@@ -24,25 +24,12 @@ use Rattle.passes.specs.Held.{placeOf}
 use Rattle.passes.specs.declared.inode.Place.{Place}
 use Rattle.passes.specs.declared.inode.Place.the-variants as P
 use Rattle.change.specs.Sections.{Spans}
-use Rattle.change.specs.Cuts.{three, rowsBelow, rowHere, rowsAbove, rowsBytes, underFirst, countWith, countWithout, CutIs, Cuts, CutsList}
+use Rattle.change.specs.Cuts.{three, rowsBelow, rowHere, rowsAbove, rowsBytes, underFirst, countAfter, CutIs, Cuts, CutsList}
+use Rattle.change.specs.Edits.{isThere, rowIf, editRows}
 use Rattle.change.specs.declared.cut.Cut.{Cut}
+use Rattle.change.proofs.EditRows.{edit-count}
 use Rattle.change.proofs.Sections.{span-back, span-front, span-both, span-reads, Past, ends-past}
 use Rattle.wire.specs.RowLaws.{lookup-under, under-below}
-
--- ---- rows with the key's own changed
-
-module _ {K A : Type 0} (O : Order K) where
-  pub insert-cut : (k : K) (v : A) (l : List (K × A)) → insert O k v l ≡ rowsBelow O k l ++ ((k, v) ∷ rowsAbove O k l)
-  unfolding insert rowsBelow rowsAbove
-  insert-cut k v [] = refl
-  insert-cut k v (e ∷ l) = go (O .cmp k (e .0)) (insert-cut k v l)
-    where
-      go : (o : Ordering) → insert O k v l ≡ rowsBelow O k l ++ ((k, v) ∷ rowsAbove O k l)
-          → place O o (k, v) e l (insert O k v l)
-          ≡ three o [] [] (e ∷ rowsBelow O k l) ++ ((k, v) ∷ three o (e ∷ l) l (rowsAbove O k l))
-      go Less h = refl
-      go Equal h = refl
-      go Greater h = ap (λ (m : List (K × A)). e ∷ m) h
 
 -- ---- what is written of rows
 
@@ -230,45 +217,40 @@ module _ {K A : Type 0} (O : Order K) (key : Codec K) (value : Codec A) where
 -- ---- how many rows there are
 
 module _ {K A : Type 0} (O : Order K) where
-  cut-length : (k : K) (l : List (K × A)) → length l ≡ length (rowsBelow O k l) + (length (rowHere O k l) + length (rowsAbove O k l))
-  unfolding rowsBelow rowHere rowsAbove
-  cut-length k [] = refl
-  cut-length k (e ∷ l) = go (O .cmp k (e .0)) (cut-length k l)
-    where
-      go : (o : Ordering) → length l ≡ length (rowsBelow O k l) + (length (rowHere O k l) + length (rowsAbove O k l))
-          → suc (length l) ≡ length (three o [] [] (e ∷ rowsBelow O k l)) + (length (three o [] (e ∷ []) (rowHere O k l)) + length (three o (e ∷ l) l (rowsAbove O k l)))
-      go Less h = omega arith
-      go Equal h = omega arith
-      go Greater h = omega (arith, h)
-
-  abbrev oneIf : Option A → ℕ
-  oneIf none = 0
-  oneIf (some a) = 1
-
-  here-length : (k : K) (l : List (K × A)) → length (rowHere O k l) ≡ oneIf (underFirst (rowHere O k l))
+  -- the key's row is what stands under it
+  pub here-row : (k : K) (l : List (K × A)) → rowHere O k l ≡ rowIf O k (underFirst (rowHere O k l))
   unfolding rowHere
-  here-length k [] = refl
-  here-length k (e ∷ l) = go (O .cmp k (e .0)) (here-length k l)
+  here-row k [] = refl
+  here-row k (e ∷ l) = go (O .cmp k (e .0)) refl (here-row k l)
     where
-      go : (o : Ordering) → length (rowHere O k l) ≡ oneIf (underFirst (rowHere O k l))
-          → length (three o [] (e ∷ []) (rowHere O k l)) ≡ oneIf (underFirst (three o [] (e ∷ []) (rowHere O k l)))
-      go Less h = refl
-      go Equal h = refl
-      go Greater h = h
+      go : (o : Ordering) → O .cmp k (e .0) ≡ o → rowHere O k l ≡ rowIf O k (underFirst (rowHere O k l))
+          → three o [] (e ∷ []) (rowHere O k l) ≡ rowIf O k (underFirst (three o [] (e ∷ []) (rowHere O k l)))
+      go Less d h = refl
+      go Equal d h = λ j. (sym (O .same k (e .0) d) j, e .1) ∷ []
+      go Greater d h = h
 
-module _ {K A : Type 0} (O : Order K) (key : Codec K) (value : Codec A) {img : List ℕ} {k : K} {to : ℕ} {l : List (K × A)} (r : Cut) (c : CutIs O key value img k l to r) where
-  pub count-cut : (countWith r ≡ length (rowsBelow O k l) + suc (length (rowsAbove O k l))) × (countWithout r ≡ length (rowsBelow O k l) + length (rowsAbove O k l))
-  count-cut = go (r .place) refl (underFirst (rowHere O k l)) refl (c .holds)
+module _ {K A : Type 0} (O : Order K) (key : Codec K) (value : Codec A) {img : List ℕ} {k : K} {to : ℕ} {l : List (K × A)} {r : Cut}
+    (c : CutIs O key value img k l to r) (rising : Rising O l) (es : List (K × Option A)) (u : Under O k es) where
+  -- one change more
+  pub count-more : (o : Option A) {n : ℕ} → n ≡ length (editRows O es l) → countAfter n (r .place) (isThere o) ≡ length (editRows O ((k, o) ∷ es) l)
+  count-more o {n} e = go (r .place) o (underFirst (rowHere O k l)) refl (c .holds) (edit-count O k o es l u rising)
     where
-      long : length l ≡ length (rowsBelow O k l) + (oneIf O (underFirst (rowHere O k l)) + length (rowsAbove O k l))
-      long = cut-length O k l ∙ ap (λ (n : ℕ). length (rowsBelow O k l) + (n + length (rowsAbove O k l))) (here-length O k l)
+      here : (x : Option A) → underFirst (rowHere O k l) ≡ x → length (rowHere O k l) ≡ length (rowIf O k x)
+      here x d = ap length (here-row O k l) ∙ ap (λ (y : Option A). length (rowIf O k y)) d
 
-      go : (p : Place) → r .place ≡ p → (o : Option A) → underFirst (rowHere O k l) ≡ o → Holds img (value .read) (placeOf p) o
-          → (countWith r ≡ length (rowsBelow O k l) + suc (length (rowsAbove O k l))) × (countWithout r ≡ length (rowsBelow O k l) + length (rowsAbove O k l))
-      go (P.At p) e none d h = absurd h
-      go (P.At p) e (some a) d h = (rw e (omega (arith, c .count, long, ap (oneIf O) d)), rw e (omega (arith, c .count, long, ap (oneIf O) d)))
-      go P.Nowhere e none d h = (rw e (omega (arith, c .count, long, ap (oneIf O) d)), rw e (omega (arith, c .count, long, ap (oneIf O) d)))
-      go P.Nowhere e (some a) d h = absurd h
+      go : (p : Place) (o x : Option A) → underFirst (rowHere O k l) ≡ x → Holds img (value .read) (placeOf p) x
+          → length (editRows O ((k, o) ∷ es) l) + length (rowHere O k l) ≡ length (editRows O es l) + length (rowIf O k o)
+          → countAfter n p (isThere o) ≡ length (editRows O ((k, o) ∷ es) l)
+      go (P.At p) o none d h q = absurd h
+      go (P.At p) none (some a) d h q = omega (arith, e, q, here (some a) d)
+      go (P.At p) (some v) (some a) d h q = omega (arith, e, q, here (some a) d)
+      go P.Nowhere none none d h q = omega (arith, e, q, here none d)
+      go P.Nowhere (some v) none d h q = omega (arith, e, q, here none d)
+      go P.Nowhere o (some a) d h q = absurd h
+
+  -- what stands under the key stands there again
+  pub count-same : length (editRows O ((k, underFirst (rowHere O k l)) ∷ es) l) ≡ length (editRows O es l)
+  count-same = omega (arith, edit-count O k (underFirst (rowHere O k l)) es l u rising, ap length (here-row O k l))
 
 -- ---- what stands under a key
 

@@ -31,6 +31,9 @@ use Rattle.change.specs.declared.answer.ChangeAnswer.the-variants as A
 use Rattle.change.specs.declared.section.Sections.{Sections}
 use Rattle.change.specs.declared.section.Opened.{Opened}
 
+pub not-false : _≡_ {A = Bool} true false → ⊥
+not-false e = let z : _≡_ {A = ℕ} 0 1 = cc in omega arith
+
 refused-same : {def : Answer (List ℕ)} {old : List ℕ} {n : ℕ} → def ≡ refused n → Changes def old (A.Refused n) old
 refused-same e = record { answers = rw e; leaves = rw e }
 

@@ -4,3 +4,5 @@ pub mod Finishing
 pub mod Batches
 pub mod Queued
 pub mod Cutting
+pub mod EditRows
+pub mod Splicing

@@ -1,5 +1,6 @@
 -- Where a rising list is cut to change what stands under one key: the rows below the key, its own, those above.
 use mathlib.Core.Path.{_≡_}
+use mathlib.Core.Bool.{Bool, true, false}
 use mathlib.Core.List.{List, [], _∷_, _++_}
 use mathlib.Core.Option.{Option, none, some}
 use Prim.Native.Nat.{ℕ, _+_, _-_, _≤_}
@@ -44,21 +45,12 @@ module _ {K A : Type 0} (key : Codec K) (value : Codec A) where
   rowsBytes [] = []
   rowsBytes (e ∷ l) = (key .write (e .0) ++ value .write (e .1)) ++ rowsBytes l
 
--- how many rows there are once the key has one
-abbrev pub countWith : Cut → ℕ
-countWith c = go (c .place)
-  where
-    go : Place → ℕ
-    go (P.At p) = c .count
-    go P.Nowhere = c .count + 1
-
--- how many rows there are once the key has none
-abbrev pub countWithout : Cut → ℕ
-countWithout c = go (c .place)
-  where
-    go : Place → ℕ
-    go (P.At p) = c .count - 1
-    go P.Nowhere = c .count
+-- how many rows there are, once the key has one or none
+abbrev pub countAfter : ℕ → Place → Bool → ℕ
+countAfter n (P.At p) true = n
+countAfter n (P.At p) false = n - 1
+countAfter n P.Nowhere true = n + 1
+countAfter n P.Nowhere false = n
 
 -- what stands under the first key
 abbrev pub underFirst : {K A : Type 0} → List (K × A) → Option A

@@ -3,3 +3,5 @@ pub mod Changed
 pub mod Sections
 pub mod Batches
 pub mod Cuts
+pub mod Edits
+pub mod Splices

@@ -1,11 +1,11 @@
 // Where the records of a layer are cut, to change the one of an inode.
-ghost use Prim.Native.Nat.{_≤_};
+ghost use Prim.Native.Nat.{_<_};
 ghost use mathlib.Core.Path.{_≡_};
-ghost use Rattle.wire.specs.Lists.{lastCount};
+ghost use Rattle.wire.specs.Number.{edge};
 ghost use Rattle.wire.specs.Orders.{byNumber};
 ghost use Rattle.image.specs.FieldLayout.{inode};
 ghost use Rattle.image.specs.RecordLayout.{layerRecord};
-ghost use Rattle.change.specs.Cuts.{Cuts, CutsRecords, countWith};
+ghost use Rattle.change.specs.Cuts.{Cuts, CutsRecords, countAfter};
 use passes::inode::Place;
 use passes::record::pass_record;
 use wire::cursor::Cursor;
@@ -65,14 +65,26 @@ fn cut_rows(img: &[u8], first: usize, count: u64, ino: u64) -> Cut
     }
 }
 
-// How many records there are once the inode has one.
-pub fn count_with(cut: Cut) -> u64
-    requires { ⌜ cut .count ≤ lastCount ⌝ }
-    ensures { λ r. ⌜ r ≡ countWith cut ⌝ }
+// How many rows there are of `count`, once the key has one or none.
+pub fn count_after(count: u64, place: Place, there: bool) -> u64
+    requires { ⌜ count < edge ⌝ }
+    ensures { λ r. ⌜ r ≡ countAfter count place there ⌝ }
 {
-    let place = cut.place;
     match place {
-        Place::At(_) => cut.count,
-        Place::Nowhere => cut.count + 1,
+        Place::At(_) => {
+            if there {
+                return count;
+            }
+            if count == 0 {
+                return 0;
+            }
+            count - 1
+        }
+        Place::Nowhere => {
+            if there {
+                return count + 1;
+            }
+            count
+        }
     }
 }

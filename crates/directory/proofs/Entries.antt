@@ -1,41 +1,48 @@
 -- A list by name with the row of one name changed.
 -- Assumes nothing.
 use mathlib.Core.Path.{_≡_, refl, sym, ap, _∙_}
-use mathlib.Core.Bool.{Bool, true, false}
+use mathlib.Core.Bool.{Bool, true, false, cond}
 use mathlib.Core.List.{List, [], _∷_, _++_, append-nil}
+use Rattle.wire.specs.declared.order.Ordering.{Ordering}
+use Rattle.wire.specs.declared.order.Ordering.the-variants.{Less, Equal, Greater}
 use mathlib.Core.Option.{Option, none, some}
-use Prim.Native.Nat.{ℕ, suc, _+_, _≤_, _<_, min}
+use Prim.Native.Nat.{ℕ, _+_, _-_, _≤_, _<_, min}
 use native.Mathlib.Omega.{arith}
 use lib.Dec.{ltb}
 use borrow.Author.Tests.{le-leb, lt-leb, ltb-true, ltb-false}
 use lib.ListN.{length, drop, length-append, length-drop}
-use Rattle.wire.specs.declared.order.Ordering.{Ordering}
-use Rattle.wire.specs.declared.order.Ordering.the-variants.{Less, Equal, Greater}
-use Rattle.wire.specs.Order.{Order}
 use Rattle.wire.specs.Orders.{byBytes}
-use Rattle.wire.specs.Rows.{choose, remove, set, Under, Rising}
-use Rattle.wire.specs.RowLaws.{under-below}
-use Rattle.wire.specs.Maps.{Map, empty, put}
+use Rattle.wire.specs.Maps.{Map, empty, over, get, put, get-put, map-ext}
+use Rattle.wire.specs.Parse.{Parsed}
 use Rattle.wire.specs.Number.{edge, numberBytes}
 use Rattle.wire.specs.Text.{textBytes}
 use Rattle.image.specs.Meaning.{Text}
 use Rattle.image.specs.declared.name.Under.{Under as Sort}
 use Rattle.image.specs.FieldLayout.{name, listed}
 use Rattle.image.specs.Under.{UnderName, under}
+use Rattle.image.specs.Places.{Holds}
+use Rattle.passes.specs.Held.{placeOf}
+use Rattle.passes.specs.declared.inode.Place.{Place}
 use Rattle.passes.specs.declared.inode.Place.the-variants as P
-use Rattle.nodes.specs.Listed.{byName, listAt}
+use Rattle.nodes.specs.Listed.{byName, listAt, ListedIf}
 use Rattle.nodes.specs.declared.part.Part.{Part}
+use Rattle.nodes.specs.declared.option.OptionPart.{OptionPart}
 use Rattle.nodes.specs.declared.option.OptionPart.the-variants as M
+use Rattle.writers.proofs.Writing.{list-written}
 use Rattle.rules.specs.Asks.{badName}
-use Rattle.change.specs.Sections.{Spans}
-use Rattle.change.specs.Cuts.{three, rowsBelow, rowHere, rowsAbove, rowsBytes, countWith, countWithout, CutIs, CutsList}
-use Rattle.overlay.specs.NewImages.{ownBytes, rowsAnew}
-use Rattle.directory.specs.Entries.{countAfter, rowsOf, Owns, Respells}
+use Rattle.change.specs.Sections.{between, Spans}
+use Rattle.change.specs.Cuts.{rowsBelow, rowHere, rowsAbove, rowsBytes, countAfter, CutIs, CutsList}
+use Rattle.change.specs.Edits.{isThere, rowIf, editRows}
+use Rattle.change.specs.Splices.{Piece, spliced}
+use Rattle.overlay.specs.NewLists.{rowBytes, keptOf, gapPiece, changedBytes, listBytes}
+use Rattle.overlay.specs.Directories.{listOr}
+use Rattle.directory.specs.Entries.{hasRow, changedRows, staysAbsent, cutList, StandsFor, Names, RowChanged}
 use Rattle.change.specs.declared.cut.Cut.{Cut}
-use Rattle.overlay.specs.declared.delta.Own.{Own}
-use Rattle.overlay.specs.declared.delta.Own.the-variants as O
-use Rattle.change.proofs.Sections.{span-part}
-use Rattle.change.proofs.Cutting.{insert-cut, chain-rows, rows-append, count-cut}
+use Rattle.overlay.specs.declared.list.NewRow.{NewRow}
+use Rattle.overlay.specs.declared.list.NewRow.the-variants as R
+use Rattle.overlay.specs.declared.list.NewList.the-variants as L
+use Rattle.change.proofs.Cutting.{get-here, count-more}
+use Rattle.change.proofs.Splicing.{pieceAt, splices-bytes, piece-last, piece-more, cut-again}
 
 -- ---- "3 if a name isn't 1 to 255 bytes"
 
@@ -50,87 +57,146 @@ module _ (name : Text) where
       go true e = rw (le-leb 1 (length name) h, lt-leb (length name) 255 (ltb-true 255 (length name) e))
       go false e = rw (le-leb 1 (length name) h, le-leb (length name) 255 (ltb-false 255 (length name) e))
 
--- ---- a rising list, cut at a key
-
-module _ {K A : Type 0} (O : Order K) where
-  -- the key's row, if something stands under it
-  abbrev rowIf : K → Option A → List (K × A)
-  rowIf k none = []
-  rowIf k (some v) = (k, v) ∷ []
-
-  remove-under : (k : K) (l : List (K × A)) → Under O k l → remove O k l ≡ l
-  unfolding remove
-  remove-under k [] u = refl
-  remove-under k (e ∷ l) u = rw (u .0) (ap (λ (m : List (K × A)). e ∷ m) (remove-under k l (u .1)))
-
-  remove-cut : (k : K) (l : List (K × A)) → Rising O l → remove O k l ≡ rowsBelow O k l ++ rowsAbove O k l
-  unfolding remove rowsBelow rowsAbove
-  remove-cut k [] r = refl
-  remove-cut k (e ∷ l) r = go (O .cmp k (e .0)) refl (remove-cut k l (r .1))
-    where
-      go : (o : Ordering) → O .cmp k (e .0) ≡ o → remove O k l ≡ rowsBelow O k l ++ rowsAbove O k l
-          → choose o (remove O k l) (e ∷ remove O k l) ≡ three o [] [] (e ∷ rowsBelow O k l) ++ three o (e ∷ l) l (rowsAbove O k l)
-      go Less d h = ap (λ (m : List (K × A)). e ∷ m) (remove-under k l (under-below O k (e .0) l d (r .0)))
-      go Equal d h = remove-under k l (rw (O .same k (e .0) d) (r .0))
-      go Greater d h = ap (λ (m : List (K × A)). e ∷ m) h
-
-  set-cut : (k : K) (o : Option A) (l : List (K × A)) → Rising O l → set O k o l ≡ rowsBelow O k l ++ (rowIf k o ++ rowsAbove O k l)
-  unfolding set
-  set-cut k none l r = remove-cut k l r
-  set-cut k (some v) l r = insert-cut O k v l
-
 -- ---- the name's own row
 
-own-bytes : (u : Sort) (k : Text) (own : Own) (o : Option (UnderName u)) → Owns u own o → ownBytes k own ≡ rowsBytes name (under u) (rowIf byBytes k o)
+row-bytes : (u : Sort) (k : Text) (given newName : List ℕ) (new : NewRow) (o : Option (UnderName u)) → Names given newName new k → StandsFor u new o
+    → rowBytes given newName new ≡ rowsBytes name (under u) (rowIf byBytes k o)
 unfolding rowsBytes
-own-bytes u k O.Without none h = refl
-own-bytes u k O.Without (some v) h = absurd h
-own-bytes u k O.Name none h = absurd h
-own-bytes u k O.Name (some v) h = rw (h, append-nil (textBytes k ++ []), append-nil (textBytes k))
-own-bytes u k (O.Entry n) none h = absurd h
-own-bytes u k (O.Entry n) (some v) h = rw (h, append-nil (textBytes k ++ numberBytes n))
+row-bytes u k given newName R.Absent none e h = refl
+row-bytes u k given newName R.Absent (some v) e h = absurd h
+row-bytes u k given newName R.Name none e h = absurd h
+row-bytes u k given newName R.Name (some v) e h = rw (e, h, append-nil (textBytes k ++ []), append-nil (textBytes k))
+row-bytes u k given newName (R.Entry n) none e h = absurd h
+row-bytes u k given newName (R.Entry n) (some v) e h = rw (e, h, append-nil (textBytes k ++ numberBytes n))
 
-module _ (u : Sort) {img : List ℕ} {k : Text} {to : ℕ} {cut : Cut} (own : Own) where
-  own-count : {l : List (Text × UnderName u)} → CutIs byBytes name (under u) img k l to cut → (o : Option (UnderName u)) → Owns u own o
-      → countAfter cut own ≡ length (rowsBelow byBytes k l ++ (rowIf byBytes k o ++ rowsAbove byBytes k l))
-  own-count {l} c o h =
-      go own o h ∙ ap (λ (n : ℕ). length (rowsBelow byBytes k l) + n) (sym (length-append (rowIf byBytes k o) (rowsAbove byBytes k l)))
-      ∙ sym (length-append (rowsBelow byBytes k l) (rowIf byBytes k o ++ rowsAbove byBytes k l))
+row-there : (u : Sort) (new : NewRow) (o : Option (UnderName u)) → StandsFor u new o → hasRow new ≡ isThere o
+row-there u R.Absent none h = refl
+row-there u R.Absent (some v) h = absurd h
+row-there u R.Name none h = absurd h
+row-there u R.Name (some v) h = refl
+row-there u (R.Entry n) none h = absurd h
+row-there u (R.Entry n) (some v) h = refl
+
+pub own-name : (k : Text) (new : NewRow) → Names k k new k
+own-name k R.Absent = tt
+own-name k R.Name = refl
+own-name k (R.Entry n) = refl
+
+-- ---- gaps that are empty
+
+no-bytes : (img : List ℕ) (at : ℕ) → between img at at ≡ []
+no-bytes img at = let z : at - at ≡ 0 = omega arith in rw z
+
+below-empty : (img : List ℕ) (from : ℕ) (ps : List Piece) (to : ℕ)
+    → spliced img from (gapPiece (record { start = from; end = from }) ∷ ps) to ≡ spliced img from ps to
+unfolding spliced
+below-empty img from ps to = rw (no-bytes img from)
+
+above-empty : (img : List ℕ) (from : ℕ) (p : Piece) (to : ℕ)
+    → spliced img from (p ∷ (gapPiece (record { start = to; end = to }) ∷ [])) to ≡ spliced img from (p ∷ []) to
+unfolding spliced
+above-empty img from p to = rw (no-bytes img to, append-nil (between img (p .after) to))
+
+-- ---- the list with another row
+
+module _ (u : Sort) {img : List ℕ} {to : ℕ} (m : Map byBytes (UnderName u)) where
+  none-behind : {k : Text} {cut : Cut} → CutIs byBytes name (under u) img k (m .rows) to cut → Spans img to [] to
+  none-behind c = record { is = refl; ends = omega arith; within = c .above .within }
+
+  one-changed : {k : Text} {cut : Cut} (new : NewRow) → CutIs byBytes name (under u) img k (m .rows) to cut → (given newName : List ℕ)
+      → Names given newName new k → (o : Option (UnderName u)) → StandsFor u new o
+      → changedBytes img given newName (changedRows cut to new) ≡ byName u .write (put byBytes k o m)
+  unfolding over editRows
+  one-changed {k} {cut} new c given newName e o h =
+      let n = numberBytes (countAfter (cut .count) (cut .place) (hasRow new)) in
+      let x = rowBytes given newName new in
+      let counts = ap (countAfter (cut .count) (cut .place)) (row-there u new o h) ∙ count-more byBytes name (under u) c (m .rising) [] tt o (c .count) in
+      ap (λ (s : List ℕ). n ++ s) (below-empty img (cut .first) (pieceAt cut x ∷ (gapPiece (record { start = to; end = to }) ∷ [])) to)
+      ∙ ap (λ (s : List ℕ). n ++ s) (above-empty img (cut .first) (pieceAt cut x) to)
+      ∙ splices-bytes byBytes name (under u)
+      (record {
+        rising = (tt, tt);
+        counts = counts;
+        pieces = piece-last byBytes name (under u) o x c (none-behind c) (row-bytes u k given newName new o e h);
+      })
+      ∙ append-nil (byName u .write (put byBytes k o m))
+
+  -- the same with the rows of two names changed, the lesser first; for rename
+  pub two-changed : {j k : Text} {a b : Cut} (x y : List ℕ) (n : ℕ) (o p : Option (UnderName u)) → byBytes .cmp j k ≡ Less
+      → CutIs byBytes name (under u) img j (m .rows) to a → CutIs byBytes name (under u) img k (m .rows) to b → a .first ≡ b .first
+      → n ≡ countAfter (countAfter (b .count) (b .place) (isThere p)) (a .place) (isThere o)
+      → x ≡ rowsBytes name (under u) (rowIf byBytes j o) → y ≡ rowsBytes name (under u) (rowIf byBytes k p)
+      → numberBytes n ++ spliced img (a .first) (pieceAt a x ∷ (pieceAt b y ∷ [])) to ≡ byName u .write (put byBytes j o (put byBytes k p m))
+  unfolding over editRows
+  two-changed {j} {k} {a} {b} x y n o p lt c d same en ex ey =
+      let last = count-more byBytes name (under u) d (m .rising) [] tt p (d .count) in
+      let both = count-more byBytes name (under u) c (m .rising) ((k, p) ∷ []) (lt, tt) o last in
+      let behind-first = cut-again byBytes name (under u) (m .rising) lt same c d in
+      splices-bytes byBytes name (under u)
+      (record {
+        rising = ((lt, tt), (tt, tt));
+        counts = en ∙ both;
+        pieces = piece-more byBytes name (under u) [] to o x (pieceAt b y ∷ []) ((k, p) ∷ []) c ex
+            (piece-last byBytes name (under u) p y behind-first (none-behind c) ey);
+      })
+      ∙ append-nil (byName u .write (put byBytes j o (put byBytes k p m)))
+
+-- ---- the list as it is
+
+pub kept-bytes : (img given newName : List ℕ) (u : Sort) (list : OptionPart) (end : ℕ) → ListedIf img u list end
+    → listBytes img given newName (keptOf list) ≡ byName u .write (listOr img u list)
+unfolding empty
+kept-bytes img given newName u (M.Some p) end h = list-written u h
+kept-bytes img given newName u M.None end h = sym (append-nil (numberBytes 0))
+
+put-absent : {A : Type 0} (k : Text) (m : Map byBytes A) → get byBytes k m ≡ none → put byBytes k none m ≡ m
+put-absent k m e = map-ext byBytes (put byBytes k none m) m (λ j. go j (byBytes .cmp j k) refl)
+  where
+    go : (j : Text) (d : Ordering) → byBytes .cmp j k ≡ d → get byBytes j (put byBytes k none m) ≡ get byBytes j m
+    go j Less h = rw (get-put, h)
+    go j Greater h = rw (get-put, h)
+    go j Equal h = rw (get-put, h, byBytes .same j k h, e)
+
+not-there : {A : Type 0} (o : Option A) → isThere o ≡ false → o ≡ none
+not-there none h = refl
+not-there (some a) h = cc
+
+-- a name that has no row before and none afterwards
+module _ {A : Type 0} (img : List ℕ) (read : List ℕ → Parsed A) where
+  absent-before : (place : Place) (new : NewRow) (x : Option A) → Holds img read (placeOf place) x → staysAbsent place new ≡ true → x ≡ none
+  absent-before (P.At p) new x h e = cc
+  absent-before P.Nowhere new none h e = refl
+  absent-before P.Nowhere new (some a) h e = absurd h
+
+absent-after : (place : Place) (new : NewRow) → staysAbsent place new ≡ true → hasRow new ≡ false
+absent-after (P.At p) new e = cc
+absent-after P.Nowhere R.Absent e = refl
+absent-after P.Nowhere R.Name e = cc
+absent-after P.Nowhere (R.Entry n) e = cc
+
+module _ (u : Sort) {img : List ℕ} (list : OptionPart) {end : ℕ} (l : ListedIf img u list end) {k : Text} {cut : Cut}
+    (c : CutIs byBytes name (under u) img k (listOr img u list .rows) end cut) where
+  list-changed : (new : NewRow) (given newName : List ℕ) → Names given newName new k → (o : Option (UnderName u)) → StandsFor u new o
+      → listBytes img given newName (cutList list cut end new) ≡ byName u .write (put byBytes k o (listOr img u list))
+  list-changed new given newName e o h = go (staysAbsent (cut .place) new) refl
     where
-      n : (countWith cut ≡ length (rowsBelow byBytes k l) + suc (length (rowsAbove byBytes k l))) × (countWithout cut ≡ length (rowsBelow byBytes k l) + length (rowsAbove byBytes k l))
-      n = count-cut byBytes name (under u) cut c
+      m : Map byBytes (UnderName u)
+      m = listOr img u list
 
-      go : (own : Own) (o : Option (UnderName u)) → Owns u own o
-          → countAfter cut own ≡ length (rowsBelow byBytes k l) + (length (rowIf byBytes k o) + length (rowsAbove byBytes k l))
-      go O.Without none h = omega (arith, n .1)
-      go O.Without (some v) h = absurd h
-      go O.Name none h = absurd h
-      go O.Name (some v) h = omega (arith, n .0)
-      go (O.Entry i) none h = absurd h
-      go (O.Entry i) (some v) h = omega (arith, n .0)
+      go : (b : Bool) → staysAbsent (cut .place) new ≡ b
+          → listBytes img given newName (cond b (keptOf list) (L.Changed (changedRows cut end new))) ≡ byName u .write (put byBytes k o m)
+      go false d = one-changed u m new c given newName e o h
+      go true d =
+          let before = get-here byBytes k m ∙ absent-before img (under u .read) (cut .place) new _ (c .holds) d in
+          let after = not-there o (sym (row-there u new o h) ∙ absent-after (cut .place) new d) in
+          kept-bytes img given newName u list end l
+          ∙ ap (byName u .write) (sym (put-absent k m before) ∙ ap (λ (x : Option (UnderName u)). put byBytes k x m) (sym after))
 
-  -- ---- the list
-
-  spelt : (m : Map byBytes (UnderName u)) → CutIs byBytes name (under u) img k (m .rows) to cut → (o : Option (UnderName u)) → Owns u own o
-      → rowsAnew img k (rowsOf cut to own) ≡ byName u .write (put byBytes k o m)
-  unfolding put
-  spelt m c o h =
-      let l = m .rows in
-      let b = rowsBelow byBytes k l in
-      let a = rowsAbove byBytes k l in
-      let e = set-cut byBytes k o l (m .rising) in
-      let n : length (set byBytes k o l) ≡ countAfter cut own = ap length e ∙ sym (own-count c o h) in
-      let w = chain-rows byBytes name (under u) none (set byBytes k o l) ∙ ap (rowsBytes name (under u)) e ∙ rows-append byBytes name (under u) b (rowIf byBytes k o ++ a)
-      ∙ ap (λ (t : List ℕ). rowsBytes name (under u) b ++ t) (rows-append byBytes name (under u) (rowIf byBytes k o) a) in
-      let below = span-part (c .below) in
-      let above = span-part (c .above) in
-      let mine = own-bytes u k own o h in
-      (λ j. numberBytes (countAfter cut own) ++ (below j ++ (mine j ++ above j))) ∙ sym (λ j. numberBytes (n j) ++ w j)
-
-pub respelt : {u : Sort} {img : List ℕ} {k : Text} {cut : Cut} {own : Own} {p : Part} {e : ℕ} → CutsList byBytes name (under u) img (p .start) k cut → e ≡ min (p .start + p .length) edge
-    → Respells img u (M.Some p) k own (rowsOf cut e own)
-respelt {u} {img} {k} {cut} {own} {p} {e} c d = record {
-  writes = λ short end h o owns.
+pub some-changed : {u : Sort} {img : List ℕ} {k : Text} {cut : Cut} {new : NewRow} {p : Part} {e : ℕ}
+    → CutsList byBytes name (under u) img (p .start) k cut → e ≡ min (p .start + p .length) edge
+    → RowChanged img u (M.Some p) k new (cutList (M.Some p) cut e new)
+some-changed {u} {img} {k} {cut} {new} {p} {e} c d = record {
+  writes = λ short end h given newName x o stands.
       let f = listed byBytes name (under u) .forth (drop (p .start) img) (listAt img u p) (drop end img) (h .is) in
       let z : e ≡ end = omega (arith, h .ends, h .inside) in
       let s : Spans img (p .start) (byName u .write (listAt img u p)) end = record {
@@ -138,16 +204,17 @@ respelt {u} {img} {k} {cut} {own} {p} {e} c d = record {
         ends = omega (arith, ap length (f .0), length-append (byName u .write (listAt img u p)) (drop end img), length-drop (p .start) img, length-drop end img, h .inside, h .ends);
         within = h .inside;
       } in
-      rw z (spelt u own (listAt img u p) (c .cut (listAt img u p) end (f .1) s) o owns);
+      rw z (list-changed u (M.Some p) h (c .cut (listAt img u p) end (f .1) s) new given newName x o stands);
 }
 
 abbrev nowhere : Cut
 nowhere = record { count = 0; first = 0; row = 0; after = 0; place = P.Nowhere }
 
-pub respelt-empty : {u : Sort} {img : List ℕ} {k : Text} {own : Own} → Respells img u M.None k own (rowsOf nowhere 0 own)
+pub none-changed : {u : Sort} {img : List ℕ} {k : Text} {new : NewRow} → RowChanged img u M.None k new (cutList M.None nowhere 0 new)
 unfolding empty rowsBelow rowHere rowsAbove rowsBytes
-respelt-empty {u} {img} {k} {own} = record {
-  writes = λ short end h o owns.
+none-changed {u} {img} {k} {new} = record {
+  writes = λ short end h given newName x o stands.
       let s : Spans img 0 [] 0 = record { is = refl; ends = refl; within = omega arith } in
-      spelt u own (empty byBytes) (record { count = refl; below = s; here = s; above = s; holds = tt; stands = tt }) o owns;
+      list-changed u M.None {end = 0} tt {cut = nowhere} (record { count = refl; below = s; here = s; above = s; holds = tt; stands = tt })
+      new given newName x o stands;
 }

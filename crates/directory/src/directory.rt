@@ -2,12 +2,12 @@
 ghost use mathlib.Core.Path.{_≡_};
 ghost use lib.ListN.{length};
 ghost use Rattle.rules.specs.Initial.{usual};
-ghost use Rattle.rules.specs.Changes.{settingParent};
+ghost use Rattle.rules.specs.Changes.{settingParent, onDirectory};
 ghost use Rattle.rules.specs.ChangeCalls.{addDirEntry, removeDirEntry, updateDirParent};
 ghost use Rattle.change.specs.Changed.{Changes};
-ghost use Rattle.overlay.specs.Directories.{Redirects};
-ghost use Rattle.directory.specs.Entries.{stampedOf, Renames, ChangesName};
-use crate::name::with_own;
+ghost use Rattle.overlay.specs.Altered.{Alters};
+ghost use Rattle.directory.specs.Entries.{stampedOf, SetsName, ChangesName};
+use crate::name::with_row;
 use change::answer::ChangeAnswer;
 use change::cut::cut_records;
 use change::section::Sections;
@@ -16,15 +16,16 @@ use image::name::Under;
 use nodes::attr::AttrDelta;
 use nodes::option::OptionTime;
 use nodes::option::OptionU64;
-use overlay::delta::Directed;
 use overlay::delta::LiveDirectory;
-use overlay::delta::NewList;
-use overlay::delta::Own;
-use overlay::delta::kept;
 use overlay::delta::live_directory;
-use overlay::live::lived;
-use overlay::write::NewImage;
-use overlay::write::write_image;
+use overlay::list::NewRow;
+use overlay::list::kept;
+use overlay::record::NewDirectory;
+use overlay::record::NewRecord;
+use overlay::write::NewLive;
+use overlay::write::replaced;
+use overlay::write::unchanged;
+use overlay::write::write_record;
 use stack::name::bad_name;
 use wire::time::Time;
 
@@ -44,8 +45,8 @@ pub fn add_dir_entry(
         ino,
         name,
         time,
-        Own::Entry(inode),
-        Own::Without,
+        NewRow::Entry(inode),
+        NewRow::Absent,
         target,
     )
 }
@@ -60,7 +61,7 @@ pub fn remove_dir_entry(
 ) -> ChangeAnswer
     ensures { λ r. ⌜ Changes (removeDirEntry usual (now (img .entry)) ino (now (name .entry)) time (length (now (target .entry)))) (now (target .entry)) r (now (target .exit)) ⌝ }
 {
-    change_name(img, ino, name, time, Own::Without, Own::Name, target)
+    change_name(img, ino, name, time, NewRow::Absent, NewRow::Name, target)
 }
 
 // Changes what stands under a name in added, and in removed.
@@ -69,8 +70,8 @@ fn change_name(
     ino: u64,
     name: &[u8],
     time: Time,
-    added: Own,
-    removed: Own,
+    added: NewRow,
+    removed: NewRow,
     target: &mut [u8],
 ) -> ChangeAnswer
     ensures { λ r. ⌜ ChangesName (now (img .entry)) ino (now (name .entry)) time added removed (now (target .entry)) r (now (target .exit)) ⌝ }
@@ -87,7 +88,7 @@ fn change_name(
     }
     let sections = opened.sections;
     let new = with_name(img, sections, ino, name, time, added, removed);
-    write_image(img, name, sections, new, target)
+    write_record(img, name, name, sections, new, target)
 }
 
 // The image with another row of the name's in added, and in removed.
@@ -97,10 +98,10 @@ fn with_name(
     ino: u64,
     name: &[u8],
     time: Time,
-    added: Own,
-    removed: Own,
-) -> NewImage
-    ensures { λ r. ⌜ Renames (now (img .entry)) sections ino (now (name .entry)) time added removed r ⌝ }
+    added: NewRow,
+    removed: NewRow,
+) -> NewLive
+    ensures { λ r. ⌜ SetsName (now (img .entry)) sections ino (now (name .entry)) time added removed r ⌝ }
 {
     let cut = cut_records(img, sections.live, ino);
     let place = cut.place;
@@ -111,17 +112,15 @@ fn with_name(
             let parent = delta.parent;
             let entries = delta.added;
             let names = delta.removed;
-            let new_entries = with_own(img, entries, Under::Inode, name, added);
-            let new_names = with_own(img, names, Under::Nothing, name, removed);
-            NewImage::Directed(Directed {
-                lived: lived(cut, ino),
+            let directory = NewDirectory {
                 attr_delta: stamped(attr_delta, time),
                 parent,
-                added: NewList::Changed(new_entries),
-                removed: NewList::Changed(new_names),
-            })
+                added: with_row(img, entries, Under::Inode, name, added),
+                removed: with_row(img, names, Under::Nothing, name, removed),
+            };
+            replaced(cut, ino, NewRecord::Directory(directory))
         }
-        LiveDirectory::Other => NewImage::Same,
+        LiveDirectory::Other => unchanged(cut, ino),
     }
 }
 
@@ -161,12 +160,12 @@ pub fn update_dir_parent(img: &[u8], ino: u64, parent: u64, target: &mut [u8]) -
     }
     let sections = opened.sections;
     let new = with_parent(img, sections, ino, parent);
-    write_image(img, img, sections, new, target)
+    write_record(img, img, img, sections, new, target)
 }
 
 // The image with another parent of the live directory.
-fn with_parent(img: &[u8], sections: Sections, ino: u64, parent: u64) -> NewImage
-    ensures { λ r. ⌜ Redirects (now (img .entry)) (now (img .entry)) sections ino (settingParent parent) r ⌝ }
+fn with_parent(img: &[u8], sections: Sections, ino: u64, parent: u64) -> NewLive
+    ensures { λ r. ⌜ Alters (now (img .entry)) (now (img .entry)) (now (img .entry)) sections ino (onDirectory (settingParent parent)) r ⌝ }
 {
     let cut = cut_records(img, sections.live, ino);
     let place = cut.place;
@@ -176,14 +175,14 @@ fn with_parent(img: &[u8], sections: Sections, ino: u64, parent: u64) -> NewImag
             let attr_delta = delta.attr_delta;
             let added = delta.added;
             let removed = delta.removed;
-            NewImage::Directed(Directed {
-                lived: lived(cut, ino),
+            let directory = NewDirectory {
                 attr_delta,
                 parent: OptionU64::Some(parent),
                 added: kept(added),
                 removed: kept(removed),
-            })
+            };
+            replaced(cut, ino, NewRecord::Directory(directory))
         }
-        LiveDirectory::Other => NewImage::Same,
+        LiveDirectory::Other => unchanged(cut, ino),
     }
 }

@@ -5,15 +5,18 @@ ghost use Rattle.wire.specs.Lists.{lastCount};
 ghost use Rattle.wire.specs.Orders.{byBytes};
 ghost use Rattle.image.specs.FieldLayout.{name as nameText};
 ghost use Rattle.image.specs.Under.{under};
-ghost use Rattle.change.specs.Cuts.{Cuts, CutsList, countWithout};
-ghost use Rattle.directory.specs.Entries.{countAfter, rowsOf, Respells};
+ghost use Rattle.change.specs.Cuts.{Cuts, CutsList};
+ghost use Rattle.directory.specs.Entries.{hasRow, staysAbsent, changedRows, cutList, RowChanged};
 use change::cut::Cut;
-use change::cut::count_with;
+use change::cut::count_after;
 use image::name::Under;
 use image::name::pass_under;
 use nodes::option::OptionPart;
-use overlay::delta::Own;
-use overlay::delta::Rows;
+use overlay::list::Gap;
+use overlay::list::NewList;
+use overlay::list::NewRow;
+use overlay::list::NewRows;
+use overlay::list::kept;
 use passes::inode::Place;
 use wire::cursor::Cursor;
 use wire::cursor::place_at;
@@ -24,14 +27,14 @@ use wire::part::part;
 use wire::put::advance;
 use wire::text::read_text;
 
-// The list with the name's own row as given, and no other of the name's.
-pub fn with_own(img: &[u8], list: OptionPart, what: Under, name: &[u8], own: Own) -> Rows
-    ensures { λ r. ⌜ Respells (now (img .entry)) what list (now (name .entry)) own r ⌝ }
+// The list with the row of a name as it is to be.
+pub fn with_row(img: &[u8], list: OptionPart, what: Under, name: &[u8], new: NewRow) -> NewList
+    ensures { λ r. ⌜ RowChanged (now (img .entry)) what list (now (name .entry)) new r ⌝ }
 {
     match list {
         OptionPart::Some(rows) => {
             let cut = cut_names(img, rows.start, what, name);
-            rows_with(cut, advance(rows.start, rows.length), own)
+            with_cut(list, cut, advance(rows.start, rows.length), new)
         }
         OptionPart::None => {
             let cut = Cut {
@@ -41,50 +44,60 @@ pub fn with_own(img: &[u8], list: OptionPart, what: Under, name: &[u8], own: Own
                 after: 0,
                 place: Place::Nowhere,
             };
-            rows_with(cut, 0, own)
+            with_cut(list, cut, 0, new)
         }
     }
 }
 
-fn rows_with(cut: Cut, end: usize, own: Own) -> Rows
+// The list that ends at `end` with another row where it is cut. If the name has none before and after, the list stays.
+fn with_cut(list: OptionPart, cut: Cut, end: usize, new: NewRow) -> NewList
     requires { ⌜ cut .count ≤ lastCount ⌝ }
-    ensures { λ r. ⌜ r ≡ rowsOf cut end own ⌝ }
-{
-    Rows {
-        count: count_after(cut, own),
-        first: cut.first,
-        row: cut.row,
-        after: cut.after,
-        end,
-        own,
-    }
-}
-
-// How many rows there are once the name's is as given.
-fn count_after(cut: Cut, own: Own) -> u64
-    requires { ⌜ cut .count ≤ lastCount ⌝ }
-    ensures { λ r. ⌜ r ≡ countAfter cut own ⌝ }
-{
-    match own {
-        Own::Without => count_without(cut),
-        Own::Name => count_with(cut),
-        Own::Entry(_) => count_with(cut),
-    }
-}
-
-// How many rows there are once the name has none.
-fn count_without(cut: Cut) -> u64
-    ensures { λ r. ⌜ r ≡ countWithout cut ⌝ }
+    ensures { λ r. ⌜ r ≡ cutList list cut end new ⌝ }
 {
     let place = cut.place;
+    if stays_absent(place, new) {
+        return kept(list);
+    }
+    NewList::Changed(changed_rows(cut, end, new))
+}
+
+fn changed_rows(cut: Cut, end: usize, new: NewRow) -> NewRows
+    requires { ⌜ cut .count ≤ lastCount ⌝ }
+    ensures { λ r. ⌜ r ≡ changedRows cut end new ⌝ }
+{
+    let place = cut.place;
+    NewRows {
+        count: count_after(cut.count, place, has_row(new)),
+        first: cut.first,
+        lower: Gap {
+            start: cut.first,
+            end: cut.first,
+        },
+        row: cut.row,
+        after: cut.after,
+        new,
+        upper: Gap { start: end, end },
+        end,
+    }
+}
+
+// Whether a name has no row where the list is cut, and none afterwards.
+fn stays_absent(place: Place, new: NewRow) -> bool
+    ensures { λ r. ⌜ r ≡ staysAbsent place new ⌝ }
+{
     match place {
-        Place::At(_) => {
-            if cut.count == 0 {
-                return 0;
-            }
-            cut.count - 1
-        }
-        Place::Nowhere => cut.count,
+        Place::At(_) => false,
+        Place::Nowhere => !has_row(new),
+    }
+}
+
+fn has_row(new: NewRow) -> bool
+    ensures { λ r. ⌜ r ≡ hasRow new ⌝ }
+{
+    match new {
+        NewRow::Absent => false,
+        NewRow::Name => true,
+        NewRow::Entry(_) => true,
     }
 }
 

@@ -1,3 +1,2 @@
--- Fields over fields, and a delta written anew.
+-- Fields over fields.
 pub mod Fields
-pub mod Anew

@@ -1,37 +1,12 @@
-// A live delta with other fields.
+// The fields of an update, over those of a live delta.
 ghost use mathlib.Core.Path.{_≡_};
-ghost use Rattle.wire.specs.Put.{Put};
 ghost use Rattle.fields.specs.Fields.{orWord, orTime, orPart, wordsOver, timesOver, attrOver};
-ghost use Rattle.fields.specs.Anew.{bareBytes, changeAnew, deltaAnew};
-use change::copy::put_between;
-use meld::merged::put_changes;
 use nodes::attr::AttrDelta;
 use nodes::attr::Times;
 use nodes::attr::Words;
 use nodes::option::OptionPart;
 use nodes::option::OptionTime;
 use nodes::option::OptionU32;
-use overlay::write::Lived;
-use wire::number::put_number;
-use writers::write_attr::put_attr_delta;
-
-// What a delta changes by its kind, afterwards.
-pub enum NewChange {
-    // as it stands in the image, from this place to the end of the record
-    Kept(usize),
-    // that of a delta which changes nothing
-    Bare,
-}
-
-// The live delta of an inode, of this code. Its attribute changes are those of the delta given, merged with those in the image.
-pub struct Updated {
-    pub lived: Lived,
-    pub code: u64,
-    pub attr_delta: AttrDelta,
-    pub new: OptionPart,
-    pub old: OptionPart,
-    pub change: NewChange,
-}
 
 fn or_u32(new: OptionU32, old: OptionU32) -> OptionU32
     ensures { λ r. ⌜ r ≡ orWord new old ⌝ }
@@ -127,47 +102,4 @@ pub fn attr_over(new: AttrDelta, old: AttrDelta) -> AttrDelta
         created_at,
         xattrs: or_part(new_xattrs, old_xattrs),
     }
-}
-
-// A change by kind that changes nothing: of a directory no parent and two empty lists, else one 0.
-fn put_bare(buf: &mut [u8], at: usize, code: u64) -> usize
-    ensures { λ r. ⌜ Put (now (buf .entry)) at (bareBytes code) r (now (buf .exit)) ⌝ }
-{
-    if code == 1 {
-        let added = put_number(buf, at, 0);
-        let removed = put_number(buf, added, 0);
-        return put_number(buf, removed, 0);
-    }
-    put_number(buf, at, 0)
-}
-
-fn put_new_change(
-    buf: &mut [u8],
-    at: usize,
-    img: &[u8],
-    code: u64,
-    change: NewChange,
-    after: usize,
-) -> usize
-    ensures { λ r. ⌜ Put (now (buf .entry)) at (changeAnew (now (img .entry)) code change after) r (now (buf .exit)) ⌝ }
-{
-    match change {
-        NewChange::Kept(start) => put_between(buf, at, img, start, after),
-        NewChange::Bare => put_bare(buf, at, code),
-    }
-}
-
-// A delta, from its code on.
-pub fn put_updated(buf: &mut [u8], at: usize, img: &[u8], given: &[u8], updated: Updated) -> usize
-    ensures { λ r. ⌜ Put (now (buf .entry)) at (deltaAnew (now (img .entry)) (now (given .entry)) updated) r (now (buf .exit)) ⌝ }
-{
-    let lived = updated.lived;
-    let attr_delta = updated.attr_delta;
-    let new = updated.new;
-    let old = updated.old;
-    let change = updated.change;
-    let fields = put_number(buf, at, updated.code);
-    let list = put_attr_delta(buf, fields, attr_delta);
-    let rest = put_changes(buf, list, img, given, new, old);
-    put_new_change(buf, rest, img, updated.code, change, lived.after)
 }

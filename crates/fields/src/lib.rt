@@ -1,2 +1,2 @@
-// The fields of an update: over those of a live delta, and the delta with them written.
+// The fields of an update, over those of a live delta.
 pub mod fields;

@@ -2,15 +2,13 @@
 -- Assumes nothing.
 use mathlib.Core.Path.{_≡_, refl, sym, ap, _∙_}
 use mathlib.Core.List.{List, [], _∷_, _++_, append-assoc}
-use mathlib.Core.Option.{none, some}
+use mathlib.Core.Option.{Option, none, some}
 use Prim.Native.Nat.{ℕ, suc, _+_}
 use native.Mathlib.Omega.{arith}
 use lib.ListN.{length, drop}
-use Rattle.wire.specs.declared.order.Ordering.{Ordering}
-use Rattle.wire.specs.declared.order.Ordering.the-variants.{Less, Equal, Greater}
 use Rattle.wire.specs.Order.{Order}
 use Rattle.wire.specs.Orders.{byBytes}
-use Rattle.wire.specs.Rows.{set, Under, Rising}
+use Rattle.wire.specs.Rows.{Under, Rising}
 use Rattle.wire.specs.Maps.{Map, over, put, merge}
 use Rattle.wire.specs.Combinators.{opt-write}
 use Rattle.wire.specs.Number.{numberBytes, number-read, numberTo}
@@ -26,74 +24,46 @@ use Rattle.nodes.specs.declared.option.OptionPart.the-variants as P
 use Rattle.writers.proofs.Writing.{list-written}
 use Rattle.records.proofs.Records.{list-bytes}
 use Rattle.rules.specs.Changes.{mergeChanges}
-use Rattle.change.specs.Cuts.{three, rowsBelow, rowsAbove, rowsBytes}
+use Rattle.change.specs.Cuts.{rowsBelow, rowsAbove, rowsBytes}
 use Rattle.meld.specs.Merged.{melded, ChangeRow, orEnd, rowsRead, rowsAt, mergedRows, mergedBytes, changesAnew}
-use Rattle.change.proofs.Cutting.{insert-cut, chain-rows}
+use Rattle.change.specs.Edits.{editRows, putAll}
+use Rattle.change.proofs.Cutting.{chain-rows}
+use Rattle.change.proofs.EditRows.{put-rows}
 
 -- ---- rising lists
 
--- k is below e, and e is f
-below-equal : {K : Type 0} (O : Order K) (k e f : K) → O .cmp k e ≡ Less → O .cmp e f ≡ Equal → O .cmp k f ≡ Less
-below-equal O k e f h ce = rw (← (O .same e f ce)) h
+module _ {K A : Type 0} where
+  -- rows that are all there afterwards
+  abbrev somes : List (K × A) → List (K × Option A)
+  somes [] = []
+  somes (e ∷ l) = (e .0, some (e .1)) ∷ somes l
 
 module _ {K A : Type 0} (O : Order K) where
-  below-more : (k : K) (e : K × A) (x m : List (K × A)) → O .cmp k (e .0) ≡ Less → rowsBelow O k (rowsBelow O (e .0) m ++ (e ∷ x)) ≡ rowsBelow O k m
-  unfolding rowsBelow
-  below-more k e x [] h = rw h
-  below-more k e x (f ∷ m) h = go (O .cmp (e .0) (f .0)) refl (below-more k e x m h)
-    where
-      go : (c : Ordering) → O .cmp (e .0) (f .0) ≡ c → rowsBelow O k (rowsBelow O (e .0) m ++ (e ∷ x)) ≡ rowsBelow O k m
-          → rowsBelow O k (three c [] [] (f ∷ rowsBelow O (e .0) m) ++ (e ∷ x)) ≡ three (O .cmp k (f .0)) [] [] (f ∷ rowsBelow O k m)
-      go Less ce i = rw (h, O .trans k (e .0) (f .0) h ce)
-      go Equal ce i = rw (h, below-equal O k (e .0) (f .0) h ce)
-      go Greater ce i = rw i
+  under-somes : (k : K) (l : List (K × A)) → Under O k l → Under O k (somes l)
+  under-somes k [] u = tt
+  under-somes k (e ∷ l) u = (u .0, under-somes k l (u .1))
 
-  above-more : (k : K) (e : K × A) (cs m : List (K × A)) → O .cmp k (e .0) ≡ Less
-      → rowsAbove O k (rowsBelow O (e .0) m ++ (e ∷ melded O cs (rowsAbove O (e .0) m))) ≡ melded O (e ∷ cs) (rowsAbove O k m)
-  unfolding rowsBelow rowsAbove melded
-  above-more k e cs [] h = rw h
-  above-more k e cs (f ∷ m) h = go (O .cmp (e .0) (f .0)) refl (above-more k e cs m h)
-    where
-      whole : List (K × A)
-      whole = rowsBelow O (e .0) m ++ (e ∷ melded O cs (rowsAbove O (e .0) m))
+  rising-somes : (l : List (K × A)) → Rising O l → Rising O (somes l)
+  rising-somes [] r = tt
+  rising-somes (e ∷ l) r = (under-somes (e .0) l (r .0), rising-somes l (r .1))
 
-      far : (d : Ordering) → O .cmp (e .0) (f .0) ≡ Greater → rowsAbove O k whole ≡ melded O (e ∷ cs) (rowsAbove O k m)
-          → three d (f ∷ whole) whole (rowsAbove O k whole) ≡ melded O (e ∷ cs) (three d (f ∷ m) m (rowsAbove O k m))
-      far Less ce i = rw ce
-      far Equal ce i = refl
-      far Greater ce i = i
+  over-somes : (l : List (K × A)) (m : Map O A) → over O (λ k c o. some c) l m ≡ putAll O (somes l) m
+  unfolding over
+  over-somes [] m = refl
+  over-somes (e ∷ l) m = ap (put O (e .0) (some (e .1))) (over-somes l m)
 
-      go : (c : Ordering) → O .cmp (e .0) (f .0) ≡ c → rowsAbove O k whole ≡ melded O (e ∷ cs) (rowsAbove O k m)
-          → rowsAbove O k (three c [] [] (f ∷ rowsBelow O (e .0) m) ++ (e ∷ melded O cs (three c (f ∷ m) m (rowsAbove O (e .0) m))))
-          ≡ melded O (e ∷ cs) (three (O .cmp k (f .0)) (f ∷ m) m (rowsAbove O k m))
-      go Less ce i = rw (h, O .trans k (e .0) (f .0) h ce, ce)
-      go Equal ce i = rw (h, below-equal O k (e .0) (f .0) h ce, ce)
-      go Greater ce i = far (O .cmp k (f .0)) ce i
-
-  below-melded : (k : K) (l m : List (K × A)) → Under O k l → rowsBelow O k (melded O l m) ≡ rowsBelow O k m
-  unfolding melded
-  below-melded k [] m u = refl
-  below-melded k (e ∷ l) m u = below-more k e (melded O l (rowsAbove O (e .0) m)) m (u .0)
-
-  above-melded : (k : K) (l m : List (K × A)) → Under O k l → rowsAbove O k (melded O l m) ≡ melded O l (rowsAbove O k m)
-  unfolding melded
-  above-melded k [] m u = refl
-  above-melded k (e ∷ l) m u = above-more k e l m (u .0)
-
-  over-rows : (l : List (K × A)) (m : Map O A) → Rising O l → over O (λ k c o. some c) l m .rows ≡ melded O l (m .rows)
-  unfolding over put set melded
-  over-rows [] m r = refl
-  over-rows (e ∷ l) m r =
-      let k = e .0 in
-      let i = over-rows l m (r .1) in
-      insert-cut O k (e .1) (over O (λ k c o. some c) l m .rows)
-      ∙ (λ j. rowsBelow O k (i j) ++ ((k, e .1) ∷ rowsAbove O k (i j)))
-      ∙ (λ j. below-melded k l (m .rows) (r .0) j ++ ((k, e .1) ∷ above-melded k l (m .rows) (r .0) j))
+  melded-edits : (l m : List (K × A)) → editRows O (somes l) m ≡ melded O l m
+  unfolding editRows melded
+  melded-edits [] m = refl
+  melded-edits (e ∷ l) m = ap (λ (x : List (K × A)). rowsBelow O (e .0) m ++ (e ∷ x)) (melded-edits l (rowsAbove O (e .0) m))
 
   -- one list put over another
   pub merge-rows : (new old : Map O A) → merge O (λ k c o. some c) new old .rows ≡ melded O (new .rows) (old .rows)
   unfolding merge
-  merge-rows new old = over-rows (new .rows) old (new .rising)
+  merge-rows new old =
+      ap (λ (m : Map O A). m .rows) (over-somes (new .rows) old)
+      ∙ put-rows O (somes (new .rows)) old (rising-somes (new .rows) (new .rising))
+      ∙ melded-edits (new .rows) (old .rows)
 
 -- ---- lists in bytes
 

@@ -36,7 +36,7 @@ use Rattle.meld.specs.declared.row.Row.{Row}
 use Rattle.meld.specs.declared.merged.Turn.{Turn}
 use Rattle.meld.specs.declared.merged.MergedRows.{MergedRows}
 use Rattle.change.proofs.Sections.{span-part}
-use Rattle.overlay.proofs.Living.{not-false}
+use Rattle.change.proofs.Finishing.{not-false}
 
 -- ---- the first row of a list
 

@@ -6,14 +6,13 @@ use mathlib.Core.Option.{Option, none, some}
 use Prim.Native.Nat.{ℕ}
 use Rattle.wire.specs.Orders.{byBytes}
 use Rattle.wire.specs.Maps.{Map, empty}
-use Rattle.image.specs.Meaning.{Record, Store, directory}
+use Rattle.image.specs.Meaning.{Record, directory}
 use Rattle.image.specs.declared.name.Under.{Under}
 use Rattle.image.specs.declared.name.Under.the-variants as U
 use Rattle.image.specs.Under.{UnderName}
 use Rattle.image.specs.RecordLayout.{layerRecord}
 use Rattle.image.specs.Places.{Holds}
 use Rattle.passes.specs.Held.{placeOf}
-use Rattle.image.specs.RoundTrip.{writeImage}
 use Rattle.passes.specs.declared.inode.Place.{Place}
 use Rattle.nodes.specs.Options.{numberOf}
 use Rattle.nodes.specs.Listed.{listAt, ListedIf}
@@ -29,16 +28,9 @@ use Rattle.deltas.specs.declared.delta.NodeDelta.the-variants.{Directory, File,
 use Rattle.deltas.specs.declared.delta.EntryDelta.{EntryDelta}
 use Rattle.deltas.specs.declared.delta.EntryDelta.the-variants as E
 use Rattle.rules.specs.Changes.{DirectoryChange, onDelta, onDirectory}
-use Rattle.rules.specs.Queue.{onLive}
-use Rattle.change.specs.Sections.{Stands}
-use Rattle.overlay.specs.NewImages.{newBytes}
-use Rattle.change.specs.declared.section.Sections.{Sections}
-use Rattle.overlay.specs.declared.write.NewImage.{NewImage}
 use Rattle.overlay.specs.declared.delta.LiveDelta.{LiveDelta}
 use Rattle.overlay.specs.declared.delta.LiveDirectory.{LiveDirectory}
 use Rattle.overlay.specs.declared.delta.LiveDirectory.the-variants as D
-use Rattle.overlay.specs.declared.delta.NewList.{NewList}
-use Rattle.overlay.specs.declared.delta.NewList.the-variants as L
 
 -- ---- what the code makes of a record
 
@@ -65,10 +57,6 @@ nodeDirectory (Socket d) = D.Other
 abbrev pub directoryOf : EntryDelta → LiveDirectory
 directoryOf (E.Node n) = nodeDirectory n
 directoryOf E.Tombstone = D.Other
-
-abbrev pub keptOf : OptionPart → NewList
-keptOf (P.Some p) = L.Kept p
-keptOf P.None = L.Empty
 
 -- ---- what it means
 
@@ -97,7 +85,3 @@ Lives img D.Other o = IsOther o
 -- of the record that the place holds
 pub record LivesAt (img : List ℕ) (place : Place) (r : LiveDirectory) : Type 0 where
   pub lives : (o : Option Record) → Holds img (layerRecord .read) (placeOf place) o → Lives img r o
-
--- the new image is that of the store with the live directory changed
-pub record Redirects (img given : List ℕ) (p : Sections) (i : ℕ) (D : DirectoryChange) (r : NewImage) : Type 0 where
-  pub writes : (s : Store) → Stands img p s → newBytes img given p r ≡ writeImage (onLive i (onDirectory D) s)

@@ -1,3 +1,5 @@
--- What the calls on a live record write.
-pub mod NewImages
+-- What the calls on live records write.
+pub mod NewLists
+pub mod NewRecords
 pub mod Directories
+pub mod Altered

@@ -1,4 +1,6 @@
-// The calls that change the live record of one inode: each writes the new image to a target, or refuses by a number of document 01 and writes nothing.
+// Changes of live records: the writer of images with other live records, insert and tombstone.
 pub mod delta;
+pub mod list;
 pub mod live;
+pub mod record;
 pub mod write;

@@ -1,19 +1,14 @@
 // Changes of one inode's live record.
-ghost use Prim.Native.Nat.{_≤_};
 ghost use mathlib.Core.Path.{_≡_};
 ghost use lib.ListN.{length};
-ghost use Rattle.wire.specs.Lists.{lastCount};
 ghost use Rattle.rules.specs.Initial.{usual};
 ghost use Rattle.rules.specs.Refusals.{noDelta};
 ghost use Rattle.rules.specs.ChangeCalls.{givenRecord, insertNewNode, tombstone as tombstoned};
 ghost use Rattle.change.specs.Changed.{Changes};
-ghost use Rattle.overlay.specs.NewImages.{livedOf};
-use crate::write::Lived;
-use crate::write::NewImage;
-use crate::write::write_image;
+use crate::record::NewRecord;
+use crate::write::replaced;
+use crate::write::write_record;
 use change::answer::ChangeAnswer;
-use change::cut::Cut;
-use change::cut::count_with;
 use change::cut::cut_records;
 use change::section::open_sections;
 use deltas::delta::EntryDelta;
@@ -33,8 +28,8 @@ pub fn insert_new_node(img: &[u8], ino: u64, delta: &[u8], target: &mut [u8]) ->
     }
     let sections = opened.sections;
     let cut = cut_records(img, sections.live, ino);
-    let new = NewImage::Lived(lived(cut, ino));
-    write_image(img, delta, sections, new, target)
+    let new = replaced(cut, ino, NewRecord::Given);
+    write_record(img, delta, delta, sections, new, target)
 }
 
 // Replaces the live record by a tombstone.
@@ -47,9 +42,8 @@ pub fn tombstone(img: &[u8], ino: u64, target: &mut [u8]) -> ChangeAnswer
     }
     let sections = opened.sections;
     let cut = cut_records(img, sections.live, ino);
-    let new = NewImage::Lived(lived(cut, ino));
-    let code = [0u8; 1];
-    write_image(img, &code, sections, new, target)
+    let new = replaced(cut, ino, NewRecord::Tombstone);
+    write_record(img, img, img, sections, new, target)
 }
 
 // Whether these are not the bytes of one delta, and no more.
@@ -65,19 +59,5 @@ fn no_delta(given: &[u8]) -> bool
     match delta {
         EntryDelta::Node(_) => end != given.len(),
         EntryDelta::Tombstone => true,
-    }
-}
-
-// The records of live, with one of the inode's.
-pub fn lived(cut: Cut, ino: u64) -> Lived
-    requires { ⌜ cut .count ≤ lastCount ⌝ }
-    ensures { λ r. ⌜ r ≡ livedOf cut ino ⌝ }
-{
-    Lived {
-        inode: ino,
-        count: count_with(cut),
-        first: cut.first,
-        row: cut.row,
-        after: cut.after,
     }
 }

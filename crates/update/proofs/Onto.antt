@@ -33,10 +33,8 @@ use Rattle.change.specs.Sections.{between, Spans}
 use Rattle.meld.specs.Merged.{changesAnew}
 use Rattle.fields.specs.Fields.{orWord, orTime, orPart, attrOver}
 use Rattle.update.specs.Updates.{mergedDelta, Onto}
-use Rattle.overlay.specs.declared.write.Lived.{Lived}
-use Rattle.update.specs.declared.write.NewImage.the-variants as N
-use Rattle.fields.specs.declared.fields.NewChange.the-variants as C
-use Rattle.fields.specs.declared.fields.Updated.{Updated}
+use Rattle.overlay.specs.declared.record.NewChange.the-variants as C
+use Rattle.overlay.specs.declared.record.NewRecord.the-variants as N
 use Rattle.change.proofs.Sections.{span-part, span-front, span-back, span-reads}
 use Rattle.meld.proofs.Melding.{changes-written}
 
@@ -114,8 +112,8 @@ module _ {img : List ℕ} {at v : ℕ} (start : Cursor) (n : Answers img (number
     after-code = span-back (numberBytes (codeOf d)) (fields .write (d .fields) ++ changed (d .change)) delta-span
 
   -- "does nothing on a live tombstone"
-  pub onto-dead : {l : Lived} {a : AttrDelta} → v ≡ 0 → Onto img at l a N.Same
-  onto-dead {l} e = record { stays = λ w. refl; merges = λ d f w. absurd (omega (arith, e, code-read (l .after) d w .0)) }
+  pub onto-dead : {a : AttrDelta} → v ≡ 0 → Onto img at a N.Tombstone
+  onto-dead e = record { stays = λ after w. refl; merges = λ after d f w. absurd (omega (arith, e, code-read after d w .0)) }
 
   module _ {b : AttrDelta} (next : Cursor) (r : ReadsAttr img start b next) where
     module _ (after : ℕ) (d : Delta) (f : FitsRecord (delta d)) (w : Spans img at (layerRecord .write (delta d)) after) where
@@ -144,14 +142,15 @@ module _ {img : List ℕ} {at v : ℕ} (start : Cursor) (n : Answers img (number
           ∙ sym (delta-bytes (mergeFields (fieldsMeant given a) (d .fields)) (d .change))
 
     -- "Update merges into a live delta, field by field and attribute by attribute"
-    pub onto-delta : {l : Lived} {a o : AttrDelta} {place : ℕ} → (v ≡ 0 → ⊥) → o ≡ attrOver a b → place ≡ placeAt next
-        → Onto img at l a (N.Updated (record { lived = l; code = v; «attr_delta» = o; new = a .xattrs; old = b .xattrs; change = C.Kept place }))
-    onto-delta {l} {a} {o} {place} z e q = record {
-      stays = λ w. absurd (z (span-reads (numberTo 7 refl) (span-front (numberBytes 0) [] (subst (λ (t : List ℕ). Spans img at t (l .after)) dead-bytes w)) (omega arith) start (n .reads) .0));
-      merges = λ d f w. record {
-        new = record { lived = l; code = v; «attr_delta» = o; new = a .xattrs; old = b .xattrs; change = C.Kept place };
+    pub onto-delta : {a o : AttrDelta} {place : ℕ} → (v ≡ 0 → ⊥) → o ≡ attrOver a b → place ≡ placeAt next
+        → Onto img at a (N.Updated (record { code = v; «attr_delta» = o; new = a .xattrs; old = b .xattrs; change = C.Kept place }))
+    onto-delta {a} {o} {place} z e q = record {
+      stays = λ after w.
+          let front = span-front (numberBytes 0) [] (subst (λ (t : List ℕ). Spans img at t after) dead-bytes w) in
+          absurd (z (span-reads (numberTo 7 refl) front (omega arith) start (n .reads) .0));
+      merges = λ after d f w. record {
+        new = record { code = v; «attr_delta» = o; new = a .xattrs; old = b .xattrs; change = C.Kept place };
         is = refl;
-        lived = refl;
-        writes = λ given end h. rw (e, q) (merged-bytes (l .after) d f w a given end h);
+        writes = λ given end h. rw (e, q) (merged-bytes after d f w a given end h);
       };
     }

@@ -24,7 +24,7 @@ use Rattle.image.specs.Fits.{FitsRecord}
 use Rattle.image.specs.FieldLayout.{inode}
 use Rattle.image.specs.RecordLayout.{changes, fields, layerRecord}
 use Rattle.image.specs.Places.{Holds}
-use Rattle.image.specs.RoundTrip.{readImage, writeImage, read-then-write}
+use Rattle.image.specs.RoundTrip.{readImage, writeImage}
 use Rattle.nodes.specs.Listed.{listOf, ListedIf}
 use Rattle.nodes.specs.Attrs.{fieldsMeant, ReadsAttr}
 use Rattle.nodes.specs.declared.attr.AttrDelta.{AttrDelta}
@@ -51,21 +51,19 @@ use Rattle.change.specs.Changed.{Changes, ifFits}
 use Rattle.change.specs.Sections.{Spans, Stands}
 use Rattle.change.specs.Cuts.{rowHere, underFirst, StandsAt, CutsRecords}
 use Rattle.meld.specs.Merged.{changesAnew}
-use Rattle.overlay.specs.NewImages.{livedOf, relived}
-use Rattle.fields.specs.Anew.{bareBytes, deltaAnew}
-use Rattle.update.specs.Updates.{newBytes, leftOver, newDelta, mergedDelta, Onto, Updates}
+use Rattle.overlay.specs.NewRecords.{bareBytes, updatedBytes, recordRow, oneImage, replacedOf, unchangedOf}
+use Rattle.update.specs.Updates.{leftOver, newDelta, mergedDelta, Onto, Updates}
 use Rattle.change.specs.declared.answer.ChangeAnswer.{ChangeAnswer}
 use Rattle.change.specs.declared.answer.ChangeAnswer.the-variants as R
 use Rattle.change.specs.declared.section.Sections.{Sections}
 use Rattle.change.specs.declared.cut.Cut.{Cut}
-use Rattle.overlay.specs.declared.write.Lived.{Lived}
-use Rattle.update.specs.declared.write.NewImage.{NewImage}
-use Rattle.update.specs.declared.write.NewImage.the-variants as N
-use Rattle.fields.specs.declared.fields.Updated.{Updated}
-use Rattle.change.proofs.Finishing.{changes-refused, changes-made}
-use Rattle.overlay.proofs.Living.{not-false, read-whole, read-longer, is-cut, lived-bytes}
+use Rattle.overlay.specs.declared.record.Updated.{Updated}
+use Rattle.overlay.specs.declared.record.NewRecord.{NewRecord}
+use Rattle.overlay.specs.declared.record.NewRecord.the-variants as N
+use Rattle.overlay.specs.declared.write.NewLive.{NewLive}
+use Rattle.change.proofs.Finishing.{not-false, changes-refused, changes-made}
 use Rattle.change.proofs.Cutting.{get-here}
-use Rattle.change.proofs.Cutting.{put-same}
+use Rattle.overlay.proofs.Living.{read-whole, read-longer, tombstone-bytes, is-cut, replaced-image, unchanged-image}
 use Rattle.update.proofs.Onto.{regroup, changed, delta-bytes}
 
 -- ---- no live record
@@ -91,9 +89,9 @@ bare-kind symlink = refl
 bare-kind (special s) = refl
 
 -- "makes a delta of the type below, device 0"
-new-delta-bytes : (img given : List ℕ) (l : Lived) (k : Kind) (a : AttrDelta) (end : ℕ) → ListedIf given U.Change (a .xattrs) end
-    → deltaAnew img given (newDelta l (suc (kindNumber k)) a) ≡ layerRecord .write (bareDelta (fieldsMeant given a) k)
-new-delta-bytes img given l k a end h =
+new-delta-bytes : (img given : List ℕ) (k : Kind) (a : AttrDelta) (after end : ℕ) → ListedIf given U.Change (a .xattrs) end
+    → updatedBytes img given (newDelta (suc (kindNumber k)) a) after ≡ layerRecord .write (bareDelta (fieldsMeant given a) k)
+new-delta-bytes img given k a after end h =
     let c = numberBytes (suc (kindNumber k)) in
     (λ j. c ++ (attrBytes a ++ (only-given img given (a .xattrs) end h j ++ bare-bytes k j)))
     ∙ regroup c (attrBytes a) (opt-write changes (listOf given U.Change (a .xattrs))) (changed (bareChange k))
@@ -118,40 +116,44 @@ liveOf i s = get byNumber i (s .live)
 abbrev newOf : List ℕ → AttrDelta → ℕ → Store → Option Record → Option Record
 newOf given a i s = updated (fieldsMeant given a) (typeBelow s i)
 
-module _ {img : List ℕ} {p : Sections} {s : Store} (w : Stands img p s) (i : ℕ) (a : AttrDelta) (given : List ℕ) where
-  -- nothing is altered
-  same-bytes : (o : Option Record) → liveOf i s ≡ o → newOf given a i s o ≡ o → img ≡ writeImage (onLive i (newOf given a i s) s)
-  same-bytes o e d =
-      sym (read-then-write img s (w .is))
-      ∙ ap (λ (m : Layer). writeImage (setLive m s)) (sym (ap (λ (x : Option Record). put byNumber i x (s .live)) (ap (newOf given a i s) e ∙ d) ∙ put-same byNumber i o (s .live) e))
+module _ {img : List ℕ} {p : Sections} {s : Store} (w : Stands img p s) {i : ℕ} (a : AttrDelta) (given : List ℕ)
+    {cut : Cut} (c : CutsRecords img (p .live) i cut) where
+  -- another record
+  new-bytes : {n : NewLive} (r : NewRecord) (o : Option Record) (new : Record) → n ≡ replacedOf cut i r → liveOf i s ≡ o → newOf given a i s o ≡ some new
+      → recordRow img given given (replacedOf cut i r .edit) ≡ numberBytes i ++ layerRecord .write new
+      → oneImage img given given p n ≡ writeImage (onLive i (newOf given a i s) s)
+  new-bytes r o new q e d b =
+      ap (oneImage img given given p) q
+      ∙ replaced-image w c given given r new b
+      ∙ ap (λ (x : Option Record). writeImage (setLive (put byNumber i x (s .live)) s)) (sym (ap (newOf given a i s) e ∙ d))
 
-  module _ {cut : Cut} (c : CutsRecords img (p .live) i cut) where
-    new-bytes : (o : Option Record) (n : Updated) (r : Record) → liveOf i s ≡ o → newOf given a i s o ≡ some r → n .lived ≡ livedOf cut i → deltaAnew img given n ≡ layerRecord .write r
-        → newBytes img given p (N.Updated n) ≡ writeImage (onLive i (newOf given a i s) s)
-    new-bytes o n r e d l b =
-        (λ j. relived img (b j) p (l j)) ∙ lived-bytes w c r ∙ ap (λ (x : Option Record). writeImage (setLive (put byNumber i x (s .live)) s)) (sym (ap (newOf given a i s) e ∙ d))
+  module _ {n : NewLive} (at : ℕ) (r : NewRecord) (q : n ≡ replacedOf cut i r) (o : Onto img at a r)
+      (end : ℕ) (g : ListedIf given U.Change (a .xattrs) end) where
+    record-bytes : (y : Record) → liveOf i s ≡ some y → Holds img (layerRecord .read) (some at) (some y) → Spans img at (layerRecord .write y) (cut .after)
+        → oneImage img given given p n ≡ writeImage (onLive i (newOf given a i s) s)
+    unfolding layerRecord
+    record-bytes tombstone e k t =
+        let z = o .stays (cut .after) t in
+        new-bytes N.Tombstone (some tombstone) tombstone (q ∙ ap (replacedOf cut i) z) e refl (ap (λ (x : List ℕ). numberBytes i ++ x) tombstone-bytes)
+    record-bytes (delta d) e k t =
+        let f : FitsRecord (delta d) = layerRecord .forth (drop at img) (delta d) (k .0) (k .1) .1 in
+        let m = o .merges (cut .after) d f t in
+        new-bytes (N.Updated (m .new)) (some (delta d)) (mergedDelta given a d) (q ∙ ap (replacedOf cut i) (m .is)) e refl
+        (ap (λ (x : List ℕ). numberBytes i ++ x) (m .writes given end g))
 
-    module _ (at : ℕ) (l : Lived) (r : NewImage) (q : l ≡ livedOf cut i) (o : Onto img at l a r) (end : ℕ) (g : ListedIf given U.Change (a .xattrs) end) where
-      record-bytes : (y : Record) → liveOf i s ≡ some y → Holds img (layerRecord .read) (some at) (some y) → Spans img at (layerRecord .write y) (cut .after)
-          → newBytes img given p r ≡ writeImage (onLive i (newOf given a i s) s)
-      unfolding layerRecord
-      record-bytes tombstone e k t = rw (o .stays (rw q t)) (same-bytes (some tombstone) e refl)
-      record-bytes (delta d) e k t =
-          let f : FitsRecord (delta d) = layerRecord .forth (drop at img) (delta d) (k .0) (k .1) .1 in
-          let m = o .merges d f (rw q t) in
-          rw (m .is) (new-bytes (some (delta d)) (m .new) (mergedDelta given a d) e refl (m .lived ∙ q) (m .writes given end g))
-
-      held-bytes : (h : List (ℕ × Record)) → liveOf i s ≡ underFirst h → Holds img (layerRecord .read) (some at) (underFirst h) → StandsAt byNumber inode layerRecord img (A.At at) h (cut .after)
-          → newBytes img given p r ≡ writeImage (onLive i (newOf given a i s) s)
-      held-bytes [] e k t = absurd k
-      held-bytes (x ∷ h) e k t = record-bytes (x .1) e k t
+    held-bytes : (h : List (ℕ × Record)) → liveOf i s ≡ underFirst h → Holds img (layerRecord .read) (some at) (underFirst h)
+        → StandsAt byNumber inode layerRecord img (A.At at) h (cut .after)
+        → oneImage img given given p n ≡ writeImage (onLive i (newOf given a i s) s)
+    held-bytes [] e k t = absurd k
+    held-bytes (x ∷ h) e k t = record-bytes (x .1) e k t
 
 -- there is a live record
-pub updates-live : {img : List ℕ} {p : Sections} {stk : InodeLayerStack} {i : ℕ} {a : AttrDelta} {cut : Cut} {at : ℕ} {l : Lived} {r : NewImage}
-    → CutsRecords img (p .live) i cut → cut .place ≡ A.At at → l ≡ livedOf cut i → Onto img at l a r → Updates img p stk i a r
-updates-live {img} {p} {stk} {i} {a} {cut} {at} {l} {r} c e q o = record {
+pub updates-live : {img : List ℕ} {p : Sections} {stk : InodeLayerStack} {i : ℕ} {a : AttrDelta} {cut : Cut} {at : ℕ} {r : NewRecord} {n : NewLive}
+    → CutsRecords img (p .live) i cut → cut .place ≡ A.At at → Onto img at a r → n ≡ replacedOf cut i r → Updates img p stk i a n
+updates-live {i = i} {a} {at = at} {r} c e o q = record {
   writes = λ s w k given end g.
-      held-bytes w i a given c at l r q o end g (rowHere byNumber i (s .live .rows)) (get-here byNumber i (s .live)) (rw e at (is-cut w c .holds)) (rw e at (is-cut w c .stands));
+      held-bytes w a given c at r q o end g (rowHere byNumber i (s .live .rows)) (get-here byNumber i (s .live))
+      (rw e at (is-cut w c .holds)) (rw e at (is-cut w c .stands));
 }
 
 none-live : {img : List ℕ} {p : Sections} {s : Store} {i : ℕ} {cut : Cut} → Stands img p s → CutsRecords img (p .live) i cut → cut .place ≡ A.Nowhere → liveOf i s ≡ none
@@ -163,23 +165,31 @@ none-live {img} {p} {s} {i} w c e = get-here byNumber i (s .live) ∙ go (underF
 
 module _ {img : List ℕ} {p : Sections} {stk : InodeLayerStack} {i : ℕ} {a : AttrDelta} {cut : Cut} {t : OptionType} where
   -- "with no live record makes a delta of the type below"
-  pub updates-new : {f : FileType} {n : ℕ} {l : Lived} {u : Updated} → CutsRecords img (p .live) i cut → cut .place ≡ A.Nowhere → typeOf t ≡ shown type img stk → t ≡ M.Some f
-      → n ≡ suc (kindNumber (kindMeant f)) → l ≡ livedOf cut i → u ≡ newDelta l n a → Updates img p stk i a (N.Updated u)
-  updates-new {f} {n} {l} {u} c e d z m q y = record {
+  pub updates-new : {f : FileType} {code : ℕ} {u : Updated} {n : NewLive} → CutsRecords img (p .live) i cut → cut .place ≡ A.Nowhere
+      → typeOf t ≡ shown type img stk → t ≡ M.Some f
+      → code ≡ suc (kindNumber (kindMeant f)) → u ≡ newDelta code a → n ≡ replacedOf cut i (N.Updated u) → Updates img p stk i a n
+  updates-new {f} {code} {u} c e d z m y q = record {
     writes = λ s w k given end g.
         let v = none-live w c e in
         let b : typeBelow s i ≡ some (kindMeant f) = sym (type-under k (w .is) v) ∙ sym d ∙ ap typeOf z in
-        rw (y, m) (new-bytes w i a given c none (newDelta l (suc (kindNumber (kindMeant f))) a) (bareDelta (fieldsMeant given a) (kindMeant f)) v
-        (ap (mapIf (bareDelta (fieldsMeant given a))) b) q (new-delta-bytes img given l (kindMeant f) a end g));
+        let x : u ≡ newDelta (suc (kindNumber (kindMeant f))) a = y ∙ ap (λ (j : ℕ). newDelta j a) m in
+        new-bytes w a given c (N.Updated (newDelta (suc (kindNumber (kindMeant f))) a)) none (bareDelta (fieldsMeant given a) (kindMeant f))
+        (q ∙ ap (λ (r : Updated). replacedOf cut i (N.Updated r)) x) v (ap (mapIf (bareDelta (fieldsMeant given a))) b)
+        (ap (λ (l : List ℕ). numberBytes i ++ l) (new-delta-bytes img given (kindMeant f) a (cut .after) end g));
   }
 
   -- "or does nothing if none exists"
-  pub updates-none : CutsRecords img (p .live) i cut → cut .place ≡ A.Nowhere → typeOf t ≡ shown type img stk → t ≡ M.None → Updates img p stk i a N.Same
-  updates-none c e d z = record {
+  pub updates-none : {n : NewLive} → CutsRecords img (p .live) i cut → cut .place ≡ A.Nowhere → typeOf t ≡ shown type img stk → t ≡ M.None
+      → n ≡ unchangedOf cut i
+      → Updates img p stk i a n
+  updates-none c e d z q = record {
     writes = λ s w k given end g.
         let v = none-live w c e in
         let b : typeBelow s i ≡ none = sym (type-under k (w .is) v) ∙ sym d ∙ ap typeOf z in
-        same-bytes w i a given none v (ap (mapIf (bareDelta (fieldsMeant given a))) b);
+        ap (oneImage img given given p) q
+        ∙ unchanged-image w c given given none v
+        ∙ ap (λ (x : Option Record). writeImage (setLive (put byNumber i x (s .live)) s))
+        (sym (ap (newOf given a i s) v ∙ ap (mapIf (bareDelta (fieldsMeant given a))) b));
   }
 
 -- ---- the call
@@ -208,8 +218,9 @@ module _ {img : List ℕ} {p : Sections} {s : Store} {given : List ℕ} {a : Att
   pub update-refused : (i : ℕ) → leftOver next (length given) ≡ true → Changes (updateAttrDelta usual img i given (length old)) old (R.Refused 4) old
   update-refused i h = changes-refused (Call.update i (givenFields given)) w (rw (given-bad next r h))
 
-  pub update-made : {i : ℕ} {stk : InodeLayerStack} {n : NewImage} {new : List ℕ} {answer : ChangeAnswer} → leftOver next (length given) ≡ false → StackOf img i stk → Updates img p stk i a n
-      → Changes (ifFits (newBytes img given p n) (length old)) old answer new → Changes (updateAttrDelta usual img i given (length old)) old answer new
+  pub update-made : {i : ℕ} {stk : InodeLayerStack} {n : NewLive} {new : List ℕ} {answer : ChangeAnswer} → leftOver next (length given) ≡ false
+      → StackOf img i stk → Updates img p stk i a n
+      → Changes (ifFits (oneImage img given given p n) (length old)) old answer new → Changes (updateAttrDelta usual img i given (length old)) old answer new
   unfolding result
   update-made {i} h k u z =
       let g = given-good next r h in

@@ -1,3 +1,2 @@
 // update_attr_delta: the fields given, merged into an inode's live delta.
 pub mod update;
-pub mod write;

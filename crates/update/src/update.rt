@@ -9,22 +9,23 @@ ghost use Rattle.rules.specs.Initial.{usual};
 ghost use Rattle.rules.specs.ChangeCalls.{updateAttrDelta};
 ghost use Rattle.change.specs.Changed.{Changes};
 ghost use Rattle.update.specs.Updates.{leftOver, Onto, Updates, newDelta};
-use crate::write::NewImage;
-use crate::write::write_image;
 use attrs::attr::type_row;
 use attrs::node::FileType;
 use change::answer::ChangeAnswer;
 use change::cut::cut_records;
 use change::section::Sections;
 use change::section::open_inode;
-use fields::fields::NewChange;
-use fields::fields::Updated;
 use fields::fields::attr_over;
 use nodes::attr::AttrDelta;
 use nodes::attr::read_attr_delta;
 use nodes::option::OptionPart;
-use overlay::live::lived;
-use overlay::write::Lived;
+use overlay::record::NewChange;
+use overlay::record::NewRecord;
+use overlay::record::Updated;
+use overlay::write::NewLive;
+use overlay::write::replaced;
+use overlay::write::unchanged;
+use overlay::write::write_record;
 use passes::inode::Place;
 use stack::file_type::OptionType;
 use stack::file_type::type_in;
@@ -50,7 +51,7 @@ pub fn update_attr_delta(img: &[u8], ino: u64, delta: &[u8], target: &mut [u8]) 
     let sections = opened.sections;
     let stack = opened.stack;
     let new = with_fields(img, sections, stack, ino, fields);
-    write_image(img, delta, sections, new, target)
+    write_record(img, delta, delta, sections, new, target)
 }
 
 // Whether a reading stopped, or left bytes over.
@@ -70,33 +71,37 @@ fn with_fields(
     stack: InodeLayerStack,
     ino: u64,
     fields: AttrDelta,
-) -> NewImage
+) -> NewLive
     requires { ⌜ Stacked (now img) stack ⌝ }
     ensures { λ r. ⌜ Updates (now (img .entry)) sections stack ino fields r ⌝ }
 {
     let cut = cut_records(img, sections.live, ino);
     let place = cut.place;
     match place {
-        Place::At(at) => onto_live(img, at, lived(cut, ino), fields),
+        Place::At(at) => {
+            let new = onto_live(img, at, fields);
+            replaced(cut, ino, new)
+        }
         Place::Nowhere => {
             let below = type_in(img, stack);
             match below {
                 OptionType::Some(kind) => {
-                    NewImage::Updated(new_delta(lived(cut, ino), type_code(kind), fields))
+                    let new = new_delta(type_code(kind), fields);
+                    replaced(cut, ino, NewRecord::Updated(new))
                 }
-                OptionType::None => NewImage::Same,
+                OptionType::None => unchanged(cut, ino),
             }
         }
     }
 }
 
 // The live record at a place, with the fields merged into it. A tombstone stays.
-fn onto_live(img: &[u8], at: usize, lived: Lived, fields: AttrDelta) -> NewImage
-    ensures { λ r. ⌜ Onto (now (img .entry)) at lived fields r ⌝ }
+fn onto_live(img: &[u8], at: usize, fields: AttrDelta) -> NewRecord
+    ensures { λ r. ⌜ Onto (now (img .entry)) at fields r ⌝ }
 {
     let code = read_number(img, Cursor::At(at), 7);
     if code.value == 0 {
-        return NewImage::Same;
+        return NewRecord::Tombstone;
     }
     let start = code.next;
     let read = read_attr_delta(img, start);
@@ -104,8 +109,7 @@ fn onto_live(img: &[u8], at: usize, lived: Lived, fields: AttrDelta) -> NewImage
     let below = read.attr_delta;
     let new = fields.xattrs;
     let old = below.xattrs;
-    NewImage::Updated(Updated {
-        lived,
+    NewRecord::Updated(Updated {
         code: code.value,
         attr_delta: attr_over(fields, below),
         new,
@@ -115,12 +119,11 @@ fn onto_live(img: &[u8], at: usize, lived: Lived, fields: AttrDelta) -> NewImage
 }
 
 // A delta of this code that has the fields, and changes nothing else.
-fn new_delta(lived: Lived, code: u64, fields: AttrDelta) -> Updated
-    ensures { λ r. ⌜ r ≡ newDelta lived code fields ⌝ }
+fn new_delta(code: u64, fields: AttrDelta) -> Updated
+    ensures { λ r. ⌜ r ≡ newDelta code fields ⌝ }
 {
     let new = fields.xattrs;
     Updated {
-        lived,
         code,
         attr_delta: fields,
         new,

@@ -1,33 +1,38 @@
 use borrow.Author.Needs.{needs}
-use Rattle.overlay.proofs.live.tombstone.Statement.{statement}
-use Rattle.overlay.proofs.live.tombstone.Tie as tie
 use Rattle.rules.specs.Calls.{Call}
 use Rattle.change.proofs.Finishing.{changes-unopened}
 use Rattle.overlay.proofs.Living.{tombstone-made}
+use Rattle.overlay.proofs.live.tombstone.Statement.{statement}
+use Rattle.overlay.proofs.live.tombstone.Tie as tie
 
 open-sections-requires : tie.Need-open-sections-requires
 open-sections-requires c κs = search needs
 
 returns : tie.Need-returns
-returns c = changes-unopened (Call.tombstone _) (c .before .before .open-sections .ensures) (c .if1 .taken)
+returns c =
+    let p1 = c .before .before in
+    changes-unopened (Call.tombstone _) (p1 .open-sections .ensures) (c .if1 .taken)
 
 cut-records-requires : tie.Need-cut-records-requires
 cut-records-requires c κs = search needs
 
-lived-requires : tie.Need-lived-requires
-lived-requires c κs = search needs
+replaced-requires : tie.Need-replaced-requires
+replaced-requires c κs = search needs
 
-slice-aggregate-write-image : tie.Need-slice-aggregate-write-image
-slice-aggregate-write-image c = search needs
-
-write-image-requires : tie.Need-write-image-requires
-write-image-requires c κs = search needs
+write-record-requires : tie.Need-write-record-requires
+write-record-requires c κs = search needs
 
 same-length : tie.Need-same-length
 same-length c = search needs
 
 returns-2 : tie.Need-returns-2
-returns-2 c = tombstone-made (c .before .before .before .before .before .before .before .before .before .before .open-sections .ensures .sections (c .before .before .before .before .before .before .before .before .if1 .left) .1) (c .before .before .before .before .before .before .cut-records .ensures) (rw (c .before .before .before .before .before .lived .ensures) at (c .before .before .write-image .ensures))
+returns-2 c =
+    let p1 = c .before .before in
+    let p2 = p1 .before .before in
+    let p3 = p2 .before in
+    let p4 = p3 .before .before in
+    let p5 = p4 .before .before in
+    tombstone-made (p5 .open-sections .ensures .sections (p4 .if1 .left) .1) (p3 .cut-records .ensures) (p2 .replaced .ensures) (p1 .write-record .ensures)
 
 pub tombstone-spec : {M : Type 1} → statement M
 tombstone-spec =
@@ -36,8 +41,7 @@ tombstone-spec =
     open-sections-requires
     returns
     cut-records-requires
-    lived-requires
-    slice-aggregate-write-image
-    write-image-requires
+    replaced-requires
+    write-record-requires
     same-length
     returns-2)

@@ -1,0 +1,52 @@
+use borrow.Author.Needs.{needs}
+use mathlib.Core.Path.{sym, _∙_}
+use Rattle.change.proofs.Finishing.{finish-roomless, finish-written}
+use Rattle.overlay.proofs.write.write_record.Statement.{statement}
+use Rattle.overlay.proofs.write.write_record.Tie as tie
+
+lead-in-requires : tie.Need-lead-in-requires
+lead-in-requires c κs = search needs
+
+slice-aggregate-put-image : tie.Need-slice-aggregate-put-image
+slice-aggregate-put-image c = search needs
+
+put-image-requires : tie.Need-put-image-requires
+put-image-requires c κs = search needs
+
+lacks-room-requires : tie.Need-lacks-room-requires
+lacks-room-requires c κs = search needs
+
+returns : tie.Need-returns
+returns c =
+    let p1 = c .before in
+    let p2 = p1 .before .before in
+    let p3 = p2 .before .before in
+    finish-roomless (rw (p3 .lead-in .ensures) at (p2 .put-image .ensures)) (sym (p1 .lacks-room .ensures) ∙ c .if1 .taken)
+
+put-image-requires-2 : tie.Need-put-image-requires-2
+put-image-requires-2 c κs = search needs
+
+same-length : tie.Need-same-length
+same-length c = search needs
+
+returns-2 : tie.Need-returns-2
+returns-2 c =
+    let p1 = c .before .before in
+    let p2 = p1 .before .before in
+    let p3 = p2 .before in
+    let p4 = p3 .before .before in
+    let e = p4 .before .before .lead-in .ensures in
+    finish-written (rw e at (p4 .put-image .ensures)) (sym (p3 .lacks-room .ensures) ∙ p2 .if1 .left) (rw e at (p1 .put-image2 .ensures))
+
+pub write-record-spec : {M : Type 1} → statement M
+write-record-spec =
+    tie.close
+    (tie.spec
+    lead-in-requires
+    slice-aggregate-put-image
+    put-image-requires
+    lacks-room-requires
+    returns
+    put-image-requires-2
+    same-length
+    returns-2)
