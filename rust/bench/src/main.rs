@@ -11,7 +11,7 @@ use images::{DIRECTORY, FILE, FRESH, LINK, NAME, ROOT};
 use measure::{repeated, used_up};
 use oracle::builders::file_delta;
 use oracle::calls::Call;
-use oracle::image::{Delta, Image, MAX_IMAGE, Time};
+use oracle::image::{Delta, Fields, Image, MAX_IMAGE, Time};
 use oracle::store::Store;
 use plot::Line;
 use std::fmt::Write;
@@ -46,6 +46,7 @@ impl Times {
 fn calls() -> Vec<(&'static str, Call)> {
     let name = || NAME.as_bytes().to_vec();
     let most = u64::MAX;
+    let fields = Fields { mode: Some(0o640), ctime: Some(NOW), ..Fields::default() };
     vec![
         ("exists", Call::Exists { inode: FILE }),
         ("type", Call::Type { inode: FILE }),
@@ -57,7 +58,11 @@ fn calls() -> Vec<(&'static str, Call)> {
         ("attribute's value", Call::Xattr { inode: FILE, name: b"user.note".to_vec() }),
         ("attribute names", Call::Names { inode: FILE, rows: 4000 }),
         ("insert", Call::Insert { inode: FRESH, delta: file_delta(Some(1)).write() }),
+        ("tombstone", Call::Tombstone { inode: FILE }),
         ("add entry", Call::Add { parent: ROOT, name: b"new".to_vec(), child: FRESH, now: NOW }),
+        ("remove entry", Call::Remove { parent: ROOT, name: name(), now: NOW }),
+        ("set parent", Call::SetParent { inode: DIRECTORY, parent: ROOT }),
+        ("update", Call::Update { inode: FILE, fields: fields.write() }),
         ("freeze", Call::Freeze { depth: most, bytes: most, operations: most, now: NOW }),
         ("fold", Call::Fold),
         ("snapshot", Call::Snapshot),
@@ -82,7 +87,11 @@ fn ask(store: &mut Store, call: &Call) {
         Call::Xattr { inode, name } => show(store.get_xattr(*inode, str(name))),
         Call::Names { inode, .. } => show(store.list_xattrs(*inode)),
         Call::Insert { inode, delta } => store.insert(*inode, &Delta::read(delta).expect("a delta")).expect("UTF-8"),
+        Call::Tombstone { inode } => store.tombstone(*inode),
         Call::Add { parent, name, child, now } => store.add_entry(*parent, str(name), *child, *now),
+        Call::Remove { parent, name, now } => store.remove_entry(*parent, str(name), *now),
+        Call::SetParent { inode, parent } => store.set_parent(*inode, *parent),
+        Call::Update { inode, fields } => store.update(*inode, &Fields::read(fields).expect("fields")).expect("UTF-8"),
         Call::Freeze { depth, bytes, operations, now } => show(store.freeze(*depth, *bytes, *operations, *now)),
         Call::Fold => store.fold(),
         Call::Snapshot => store.snapshot(),

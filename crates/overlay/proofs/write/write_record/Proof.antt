@@ -1,5 +1,6 @@
 use borrow.Author.Needs.{needs}
 use mathlib.Core.Path.{sym, _∙_}
+use Rattle.overlay.specs.NewRecords.{oneImage}
 use Rattle.change.proofs.Finishing.{finish-roomless, finish-written}
 use Rattle.overlay.proofs.write.write_record.Statement.{statement}
 use Rattle.overlay.proofs.write.write_record.Tie as tie
@@ -21,7 +22,9 @@ returns c =
     let p1 = c .before in
     let p2 = p1 .before .before in
     let p3 = p2 .before .before in
-    finish-roomless (rw (p3 .lead-in .ensures) at (p2 .put-image .ensures)) (sym (p1 .lacks-room .ensures) ∙ c .if1 .taken)
+    let a = p3 .before .before .before .before .before .before .args in
+    finish-roomless {bytes = oneImage (a .img .now) (a .given .now) (a .new-name .now) (a .sections) (a .new)}
+    (rw (p3 .lead-in .ensures) at (p2 .put-image .ensures)) (sym (p1 .lacks-room .ensures) ∙ c .if1 .taken)
 
 put-image-requires-2 : tie.Need-put-image-requires-2
 put-image-requires-2 c κs = search needs
@@ -35,8 +38,11 @@ returns-2 c =
     let p2 = p1 .before .before in
     let p3 = p2 .before in
     let p4 = p3 .before .before in
-    let e = p4 .before .before .lead-in .ensures in
-    finish-written (rw e at (p4 .put-image .ensures)) (sym (p3 .lacks-room .ensures) ∙ p2 .if1 .left) (rw e at (p1 .put-image2 .ensures))
+    let p5 = p4 .before .before in
+    let e = p5 .lead-in .ensures in
+    let a = p5 .before .before .before .before .before .before .args in
+    finish-written {bytes = oneImage (a .img .now) (a .given .now) (a .new-name .now) (a .sections) (a .new)}
+    (rw e at (p4 .put-image .ensures)) (sym (p3 .lacks-room .ensures) ∙ p2 .if1 .left) (rw e at (p1 .put-image2 .ensures))
 
 pub write-record-spec : {M : Type 1} → statement M
 write-record-spec =
