@@ -36,7 +36,7 @@ use Rattle.change.specs.Edits.{isThere, rowIf, editRows}
 use Rattle.change.specs.Splices.{Piece, spliced}
 use Rattle.overlay.specs.NewLists.{rowBytes, keptOf, gapPiece, changedBytes, listBytes}
 use Rattle.overlay.specs.Directories.{listOr}
-use Rattle.directory.specs.Entries.{hasRow, changedRows, staysAbsent, cutList, StandsFor, Names, RowChanged}
+use Rattle.directory.specs.Entries.{hasRow, changedRows, staysAbsent, cutList, StandsFor, HasName, RowChanged}
 use Rattle.change.specs.declared.cut.Cut.{Cut}
 use Rattle.overlay.specs.declared.list.NewRow.{NewRow}
 use Rattle.overlay.specs.declared.list.NewRow.the-variants as R
@@ -59,15 +59,15 @@ module _ (name : Text) where
 
 -- ---- the name's own row
 
-row-bytes : (u : Sort) (k : Text) (given newName : List ℕ) (new : NewRow) (o : Option (UnderName u)) → Names given newName new k → StandsFor u new o
+row-written : (u : Sort) (k : Text) (given newName : List ℕ) (new : NewRow) (o : Option (UnderName u)) → HasName given newName new k → StandsFor u new o
     → rowBytes given newName new ≡ rowsBytes name (under u) (rowIf byBytes k o)
 unfolding rowsBytes
-row-bytes u k given newName R.Absent none e h = refl
-row-bytes u k given newName R.Absent (some v) e h = absurd h
-row-bytes u k given newName R.Name none e h = absurd h
-row-bytes u k given newName R.Name (some v) e h = rw (e, h, append-nil (textBytes k ++ []), append-nil (textBytes k))
-row-bytes u k given newName (R.Entry n) none e h = absurd h
-row-bytes u k given newName (R.Entry n) (some v) e h = rw (e, h, append-nil (textBytes k ++ numberBytes n))
+row-written u k given newName R.Absent none e h = refl
+row-written u k given newName R.Absent (some v) e h = absurd h
+row-written u k given newName R.Name none e h = absurd h
+row-written u k given newName R.Name (some v) e h = rw (e, h, append-nil (textBytes k ++ []), append-nil (textBytes k))
+row-written u k given newName (R.Entry n) none e h = absurd h
+row-written u k given newName (R.Entry n) (some v) e h = rw (e, h, append-nil (textBytes k ++ numberBytes n))
 
 row-there : (u : Sort) (new : NewRow) (o : Option (UnderName u)) → StandsFor u new o → hasRow new ≡ isThere o
 row-there u R.Absent none h = refl
@@ -77,7 +77,7 @@ row-there u R.Name (some v) h = refl
 row-there u (R.Entry n) none h = absurd h
 row-there u (R.Entry n) (some v) h = refl
 
-pub own-name : (k : Text) (new : NewRow) → Names k k new k
+pub own-name : (k : Text) (new : NewRow) → HasName k k new k
 own-name k R.Absent = tt
 own-name k R.Name = refl
 own-name k (R.Entry n) = refl
@@ -104,7 +104,7 @@ module _ (u : Sort) {img : List ℕ} {to : ℕ} (m : Map byBytes (UnderName u)) 
   none-behind c = record { is = refl; ends = omega arith; within = c .above .within }
 
   one-changed : {k : Text} {cut : Cut} (new : NewRow) → CutIs byBytes name (under u) img k (m .rows) to cut → (given newName : List ℕ)
-      → Names given newName new k → (o : Option (UnderName u)) → StandsFor u new o
+      → HasName given newName new k → (o : Option (UnderName u)) → StandsFor u new o
       → changedBytes img given newName (changedRows cut to new) ≡ byName u .write (put byBytes k o m)
   unfolding over editRows
   one-changed {k} {cut} new c given newName e o h =
@@ -117,7 +117,7 @@ module _ (u : Sort) {img : List ℕ} {to : ℕ} (m : Map byBytes (UnderName u)) 
       (record {
         rising = (tt, tt);
         counts = counts;
-        pieces = piece-last byBytes name (under u) o x c (none-behind c) (row-bytes u k given newName new o e h);
+        pieces = piece-last byBytes name (under u) o x c (none-behind c) (row-written u k given newName new o e h);
       })
       ∙ append-nil (byName u .write (put byBytes k o m))
 
@@ -176,7 +176,7 @@ absent-after P.Nowhere (R.Entry n) e = cc
 
 module _ (u : Sort) {img : List ℕ} (list : OptionPart) {end : ℕ} (l : ListedIf img u list end) {k : Text} {cut : Cut}
     (c : CutIs byBytes name (under u) img k (listOr img u list .rows) end cut) where
-  list-changed : (new : NewRow) (given newName : List ℕ) → Names given newName new k → (o : Option (UnderName u)) → StandsFor u new o
+  list-changed : (new : NewRow) (given newName : List ℕ) → HasName given newName new k → (o : Option (UnderName u)) → StandsFor u new o
       → listBytes img given newName (cutList list cut end new) ≡ byName u .write (put byBytes k o (listOr img u list))
   list-changed new given newName e o h = go (staysAbsent (cut .place) new) refl
     where

@@ -80,15 +80,15 @@ StandsFor u (R.Entry inode) none = ⊥
 StandsFor u (R.Entry inode) (some v) = under u .write v ≡ numberBytes inode
 
 -- the texts given have the name where its row is written
-abbrev pub Names : List ℕ → List ℕ → NewRow → Text → Type 0
-Names given newName R.Absent name = Unit {0}
-Names given newName R.Name name = given ≡ name
-Names given newName (R.Entry inode) name = newName ≡ name
+abbrev pub HasName : List ℕ → List ℕ → NewRow → Text → Type 0
+HasName given newName R.Absent name = Unit {0}
+HasName given newName R.Name name = given ≡ name
+HasName given newName (R.Entry inode) name = newName ≡ name
 
 -- the list is written with the name's row as it is to be
 pub record RowChanged (img : List ℕ) (u : Under) (list : OptionPart) (name : Text) (new : NewRow) (r : NewList) : Type 0 where
   pub writes :
-      length img ≤ 65536 → (end : ℕ) → ListedIf img u list end → (given newName : List ℕ) → Names given newName new name
+      length img ≤ 65536 → (end : ℕ) → ListedIf img u list end → (given newName : List ℕ) → HasName given newName new name
       → (o : Option (UnderName u)) → StandsFor u new o
       → listBytes img given newName r ≡ byName u .write (put byBytes name o (listOr img u list))
 

@@ -9,8 +9,6 @@ use Rattle.wire.specs.Put.{Put}
 use Rattle.image.specs.Masks.{maybe}
 use Rattle.image.specs.FieldLayout.{inode}
 use Rattle.nodes.specs.Options.{numberOf}
-use Rattle.nodes.specs.declared.option.OptionU64.{OptionU64}
-use Rattle.nodes.specs.declared.option.OptionU64.the-variants as I
 use Rattle.writers.specs.Writes.{attrBytes}
 use Rattle.records.specs.Records.{listBytes as listIf}
 use Rattle.change.specs.Sections.{between}
@@ -52,10 +50,6 @@ updatedBytes img given n after =
 abbrev pub leadBytes : List ℕ → Lead → ℕ → List ℕ
 leadBytes img (D.Head h) row = between img 0 (h .live) ++ (numberBytes (h .count) ++ between img (h .first) row)
 leadBytes img (D.Behind first) row = between img first row
-
-abbrev pub inodeIf : OptionU64 → List ℕ
-inodeIf (I.Some i) = numberBytes i
-inodeIf I.None = []
 
 module _ (img given newName : List ℕ) where
   -- a directory delta from its code on

@@ -1,7 +1,10 @@
 // A live record, afterwards.
 ghost use Rattle.wire.specs.Put.{Put};
 ghost use mathlib.Core.List.{_++_};
-ghost use Rattle.overlay.specs.NewRecords.{directoryBytes, bareBytes, changeBytes, updatedBytes, leadBytes, inodeIf, editBytes};
+ghost use Rattle.wire.specs.Combinators.{opt-write};
+ghost use Rattle.image.specs.FieldLayout.{inode as inodeCodec};
+ghost use Rattle.nodes.specs.Options.{numberOf};
+ghost use Rattle.overlay.specs.NewRecords.{directoryBytes, bareBytes, changeBytes, updatedBytes, leadBytes, editBytes};
 use crate::list::NewList;
 use crate::list::put_list;
 use change::copy::put_between;
@@ -170,7 +173,7 @@ fn put_row_start(
     row: usize,
     inode: OptionU64,
 ) -> usize
-    ensures { λ r. ⌜ Put (now (buf .entry)) at (leadBytes (now (img .entry)) lead row ++ inodeIf inode) r (now (buf .exit)) ⌝ }
+    ensures { λ r. ⌜ Put (now (buf .entry)) at (leadBytes (now (img .entry)) lead row ++ opt-write inodeCodec (numberOf inode)) r (now (buf .exit)) ⌝ }
 {
     let start = put_lead(buf, at, img, lead, row);
     match inode {
