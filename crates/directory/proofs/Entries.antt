@@ -197,14 +197,17 @@ pub some-changed : {u : Sort} {img : List ℕ} {k : Text} {cut : Cut} {new : New
     → RowChanged img u (M.Some p) k new (cutList (M.Some p) cut e new)
 some-changed {u} {img} {k} {cut} {new} {p} {e} c d = record {
   writes = λ short end h given newName x o stands.
-      let f = listed byBytes name (under u) .forth (drop (p .start) img) (listAt img u p) (drop end img) (h .is) in
+      let m = listAt img u p in
+      let rest = drop end img in
+      let f = listed byBytes name (under u) .forth (drop (p .start) img) m rest (h .is) in
+      let n = length-append (byName u .write m) rest in
       let z : e ≡ end = omega (arith, h .ends, h .inside) in
-      let s : Spans img (p .start) (byName u .write (listAt img u p)) end = record {
+      let s : Spans img (p .start) (byName u .write m) end = record {
         is = f .0;
-        ends = omega (arith, ap length (f .0), length-append (byName u .write (listAt img u p)) (drop end img), length-drop (p .start) img, length-drop end img, h .inside, h .ends);
+        ends = omega (arith, ap length (f .0), n, length-drop (p .start) img, length-drop end img, h .inside, h .ends);
         within = h .inside;
       } in
-      rw z (list-changed u (M.Some p) h (c .cut (listAt img u p) end (f .1) s) new given newName x o stands);
+      rw z (list-changed u (M.Some p) h (c .cut m end (f .1) s) new given newName x o stands);
 }
 
 abbrev nowhere : Cut
