@@ -22,8 +22,8 @@ use Rattle.change.proofs.Sections.{span-part, span-back, span-both}
 use Rattle.change.proofs.Cutting.{chain-rows, rows-append}
 use Rattle.change.proofs.EditRows.{put-rows, cut-behind}
 
-regroup : (a b c t : List ℕ) → a ++ (b ++ (c ++ t)) ≡ (a ++ (b ++ c)) ++ t
-regroup a b c t = simp append-assoc
+pub three-first : (a b c t : List ℕ) → a ++ (b ++ (c ++ t)) ≡ (a ++ (b ++ c)) ++ t
+three-first a b c t = simp append-assoc
 
 module _ {K A : Type 0} (O : Order K) (key : Codec K) (value : Codec A) (img : List ℕ) where
   pieces-bytes : (from : ℕ) (l : List (K × A)) (t : List ℕ) (to : ℕ) (ps : List Piece) (es : List (K × Option A)) → Pieces O key value img from l t to ps es
@@ -39,7 +39,7 @@ module _ {K A : Type 0} (O : Order K) (key : Codec K) (value : Codec A) (img : L
       let i = pieces-bytes (p .after) (rowsAbove O (e .0) l) t to ps es (h .1 .1) in
       let y = span-part (h .0) in
       (λ j. y j ++ (h .1 .0 j ++ i j))
-      ∙ regroup (rowsBytes key value b) (rowsBytes key value n) (rowsBytes key value x) t
+      ∙ three-first (rowsBytes key value b) (rowsBytes key value n) (rowsBytes key value x) t
       ∙ ap (λ (s : List ℕ). s ++ t) (sym (rows-append O key value b (n ++ x) ∙ ap (λ (s : List ℕ). rowsBytes key value b ++ s) (rows-append O key value n x)))
 
 module _ {K A : Type 0} (O : Order K) (key : Codec K) (value : Codec A) where

@@ -61,9 +61,6 @@ use Rattle.directory.proofs.Entries.{own-name, kept-bytes}
 
 -- ---- the record, written
 
-regroup : (a b c d : List ℕ) → a ++ (b ++ (c ++ d)) ≡ a ++ ((b ++ c) ++ d)
-regroup a b c d = simp append-assoc
-
 -- a directory delta with these lists
 pub directory-bytes : (img given newName : List ℕ) (n : NewDirectory) (a : Entries) (b : Names)
     → (end : ℕ) × ListedIf img U.Change (n .«attr_delta» .xattrs) end
@@ -76,7 +73,8 @@ directory-bytes img given newName n a b l da db =
     let parent = maybe inode .write (numberOf (n .parent)) in
     let lb = list-bytes img (l .0) (at .xattrs) (l .1) in
     (λ j. numberBytes 1 ++ (attrBytes at ++ (lb j ++ (parent ++ (da j ++ db j)))))
-    ∙ regroup (numberBytes 1) (attrBytes at) (opt-write changes (listOf img U.Change (at .xattrs))) (parent ++ (entries .write a ++ names .write b))
+    ∙ ap (λ (l : List ℕ). numberBytes 1 ++ l)
+    (sym (append-assoc (attrBytes at) (opt-write changes (listOf img U.Change (at .xattrs))) (parent ++ (entries .write a ++ names .write b))))
     ∙ ap (λ (t : List ℕ). numberBytes 1 ++ (t ++ (parent ++ (entries .write a ++ names .write b)))) (sym (fields-bytes img at))
 
 -- ---- the new image

@@ -116,9 +116,6 @@ pub row-bytes : (i : ℕ) (r : Record) → numberBytes i ++ layerRecord .write r
 unfolding rowsBytes
 row-bytes i r = sym (append-nil (numberBytes i ++ layerRecord .write r))
 
-regroup : (a b l t : List ℕ) → (a ++ b) ++ (l ++ t) ≡ a ++ (b ++ (l ++ t))
-regroup a b l t = append-assoc a b (l ++ t)
-
 module _ {img : List ℕ} {p : Sections} {s : Store} (w : Stands img p s) where
   -- up to four records changed, or any number of them
   pub live-image : (given newName : List ℕ) {count first : ℕ} (E : List Edit) (es : List (ℕ × Option Record))
@@ -128,7 +125,7 @@ module _ {img : List ℕ} {p : Sections} {s : Store} (w : Stands img p s) where
       let front = span-part (span-both (w .base) (w .batches)) in
       let b = splices-bytes byNumber inode layerRecord h in
       (λ j. front j ++ b j)
-      ∙ regroup (base .write (s .base)) (batches .write (s .batches)) (records .write (putAll byNumber es (s .live))) (tail .write (tailOf s))
+      ∙ append-assoc (base .write (s .base)) (batches .write (s .batches)) (records .write (putAll byNumber es (s .live)) ++ tail .write (tailOf s))
       ∙ sym (store-bytes (setLive (putAll byNumber es (s .live)) s))
 
   module _ {i : ℕ} {cut : Cut} (c : CutsRecords img (p .live) i cut) where

@@ -2,7 +2,7 @@
 -- Assumes nothing.
 use mathlib.Core.Path.{_≡_, refl, sym, ap, _∙_}
 use mathlib.Core.Bool.{Bool, true, false, _||_}
-use mathlib.Core.List.{List, _++_, append-assoc}
+use mathlib.Core.List.{List, _++_}
 use Prim.Native.Nat.{ℕ, _+_, _-_, _≤_, _<_}
 use native.Mathlib.Omega.{arith}
 use lib.ListN.{length}
@@ -30,6 +30,7 @@ use Rattle.change.specs.declared.answer.ChangeAnswer.{ChangeAnswer}
 use Rattle.change.specs.declared.answer.ChangeAnswer.the-variants as A
 use Rattle.change.specs.declared.section.Sections.{Sections}
 use Rattle.change.proofs.Sections.{span-part, span-both, span-reads, store-bytes}
+use Rattle.change.proofs.Splicing.{three-first}
 use Rattle.change.proofs.Finishing.{changes-refused, changes-made}
 
 -- the store with another tail
@@ -45,9 +46,6 @@ counts-in b n o h = go (pastCount (b + n)) refl (pastCount (o + 1)) refl h
     go false d true f h = absurd (let z : _≡_ {A = ℕ} 0 1 = cc in omega arith)
     go false d false f h = (ltb-false 4294967295 (b + n) d, ltb-false 4294967295 (o + 1) f)
 
-regroup : (a b c d : List ℕ) → (a ++ (b ++ c)) ++ d ≡ a ++ (b ++ (c ++ d))
-regroup a b c d = simp append-assoc
-
 module _ {img : List ℕ} {p : Sections} {s : Store} (w : Stands img p s) where
   pub before-tail : between img 0 (p .tail) ≡ base .write (s .base) ++ (batches .write (s .batches) ++ records .write (s .live))
   before-tail = span-part (span-both (w .base) (span-both (w .batches) (w .live)))
@@ -55,7 +53,7 @@ module _ {img : List ℕ} {p : Sections} {s : Store} (w : Stands img p s) where
   pub restaged-bytes : (t : Tail) → restaged img p t ≡ writeImage (retailed (tailMeant t) s)
   restaged-bytes t =
       ap (λ (b : List ℕ). b ++ tail .write (tailMeant t)) before-tail
-      ∙ regroup (base .write (s .base)) (batches .write (s .batches)) (records .write (s .live)) (tail .write (tailMeant t))
+      ∙ sym (three-first (base .write (s .base)) (batches .write (s .batches)) (records .write (s .live)) (tail .write (tailMeant t)))
       ∙ sym (store-bytes (retailed (tailMeant t) s))
 
   -- what is read there

@@ -21,7 +21,8 @@ use Rattle.image.specs.RecordLayout.{records}
 use Rattle.image.specs.StoreLayout.{BatchRest, batchRest}
 use Rattle.image.specs.Places.{Ends, inodeBefore, rowsFrom, lastOf}
 use Rattle.passes.specs.Held.{placeOf, Finds}
-use Rattle.survey.specs.Gathering.{listIf, deltasOf, headRest, batchHead, recordPlace, batchPlaces, queueRows, queuePlaces, Pushed, Gathers, GathersQueue}
+use Rattle.survey.specs.Gathering.{listIf, deltasOf, headRest, batchHead, recordPlace, batchPlaces, queueRows, queuePlaces}
+use Rattle.survey.specs.Gathering.{Bare, Pushed, Gathers, GathersQueue}
 use Rattle.passes.specs.declared.inode.Held.the-variants as H
 use Rattle.passes.specs.declared.inode.Place.{Place}
 use Rattle.survey.specs.declared.batch.InodeLayerStack.{InodeLayerStack}
@@ -85,26 +86,27 @@ module _ {img : List ℕ} {sought here j : ℕ} (prev : Option ℕ) {c1 c2 next 
     batch-places n h = places-found n h c2 next head-ends f e
 
 -- The loop over the batches has come to `here`, where `left` are left after the id `last`; `now` is gathered of them.
-pub record Going (img : List ℕ) (sought first n : ℕ) (old : InodeLayerStack) (any : Bool) (last here left : ℕ) (now : InodeLayerStack) : Type 0 where
+pub record Going (img : List ℕ) (sought first n : ℕ) (base : Place) (any : Bool) (last here left : ℕ) (now : InodeLayerStack) : Type 0 where
   pub rows : Passed byNumber inode batchRest img first n (inodeBefore any last) here left
-  pub places : deltasOf now ++ batchPlaces (length img) sought left (drop here img) ≡ deltasOf old ++ batchPlaces (length img) sought n (drop first img)
+  pub places : deltasOf now ++ batchPlaces (length img) sought left (drop here img) ≡ batchPlaces (length img) sought n (drop first img)
   pub few : now .count + left ≤ n
   pub wide : length (now .deltas) ≡ 17
-  pub base : now .base ≡ old .base
+  pub base-kept : now .base ≡ base
 
-pub going-start : {img : List ℕ} {sought first n last : ℕ} {old : InodeLayerStack} → first ≤ length img → old .count ≡ 0 → length (old .deltas) ≡ 17
-    → Going img sought first n old false last first n old
-going-start h z w =
-    record { rows = passed-start byNumber inode batchRest h; places = refl; few = omega arith; wide = w; base = refl }
+pub going-start : {img : List ℕ} {sought first n last : ℕ} {base : Place} {deltas : List ℕ} → first ≤ length img → length deltas ≡ 17
+    → Going img sought first n base false last first n (record { base = base; deltas = deltas; count = 0 })
+going-start h w =
+    record { rows = passed-start byNumber inode batchRest h; places = refl; few = omega arith; wide = w; base-kept = refl }
 
-module _ {img : List ℕ} {sought first n last here left : ℕ} {old now : InodeLayerStack} {any : Bool} (w : Going img sought first n old any last here left now) where
-  pub going-all : left ≤ 0 → Gathers img sought first n old (record { stack = now; any = any; last = last; next = At here })
+module _ {img : List ℕ} {sought first n last here left : ℕ} {base : Place} {now : InodeLayerStack} {any : Bool}
+    (w : Going img sought first n base any last here left now) where
+  pub going-all : left ≤ 0 → Gathers img sought first n base (record { stack = now; any = any; last = last; next = At here })
   unfolding batchPlaces
   going-all h = record {
     ends = passed-all byNumber inode batchRest (w .rows) h;
     last = λ q e. passed-last byNumber inode batchRest (w .rows) h ∙ ap (λ (m : ℕ). got (inodeBefore any last) (drop m img)) (at-same e);
     places = λ q e. sym (append-nil (deltasOf now)) ∙ ap (λ (l : List ℕ). deltasOf now ++ l) (none-places left h) ∙ w .places;
-    base = λ q e. w .base;
+    base-kept = λ q e. w .base-kept;
     few = omega (arith, w .few);
     wide = w .wide;
   }
@@ -118,24 +120,24 @@ module _ {img : List ℕ} {sought first n last here left : ℕ} {old now : Inode
 
   module _ {j : ℕ} {c1 c2 next : Cursor} {place : Place} (h : 0 < left) (a : Answers img (only (after byNumber (inodeBefore any last)) inode .read) (At here) 0 j c1)
       (b : Ends img (headRest .read) c1 c2) (f : Finds img H.Record sought c2 place next) where
-    pub going-stop : {y : Fault} → next ≡ Stop y → Gathers img sought first n old (record { stack = now; any = any; last = last; next = next })
+    pub going-stop : {y : Fault} → next ≡ Stop y → Gathers img sought first n base (record { stack = now; any = any; last = last; next = next })
     going-stop e = record {
       ends = passed-stop byNumber inode batchRest (w .rows) h (a .reads) (batch-ends (inodeBefore any last) a b f) e;
       last = λ q d. no-place e d;
       places = λ q d. no-place e d;
-      base = λ q d. no-place e d;
+      base-kept = λ q d. no-place e d;
       few = omega (arith, w .few);
       wide = w .wide;
     }
 
-    pub going-on : {q : ℕ} {new : InodeLayerStack} → next ≡ At q → Pushed now (placeOf place) new → Going img sought first n old true j q (left - 1) new
+    pub going-on : {q : ℕ} {new : InodeLayerStack} → next ≡ At q → Pushed now (placeOf place) new → Going img sought first n base true j q (left - 1) new
     going-on {q} {new} e p = record {
       rows = passed-on byNumber inode batchRest (w .rows) h (a .reads) (batch-ends (inodeBefore any last) a b f) e;
       places =
           rw (p .places, append-assoc, ← (batch-places (inodeBefore any last) a b f e left h)) (w .places);
       few = omega (arith, p .few, w .few);
       wide = p .wide;
-      base = p .base ∙ w .base;
+      base-kept = p .base ∙ w .base-kept;
     }
 
 -- ---- the whole list, its count first
@@ -146,13 +148,12 @@ counted img sought n first (At i) e = rw e
 counted img sought n first (Stop f) e = never-got e
 
 module _ {img : List ℕ} {sought n : ℕ} {at mid : Cursor} {base : Place} (h : Answers img (number-read 16) at 0 n mid) where
-  pub queue-all : {first : ℕ} {old : InodeLayerStack} {r : BatchesRead} → mid ≡ At first → n ≤ 16 → deltasOf old ≡ [] → old .base ≡ base
-      → Gathers img sought first n old r → GathersQueue img sought at base r
-  queue-all {first} {old} {r} e l d b g = record {
+  pub queue-all : {first : ℕ} {r : BatchesRead} → mid ≡ At first → n ≤ 16 → Gathers img sought first n base r → GathersQueue img sought at base r
+  queue-all {first} {r} e l g = record {
     ends = ends-chosen (number-read 16) (λ n s. rowsFrom byNumber inode batchRest n none s) (rw e at (h .reads)) (g .ends);
     last = λ m q z x. rows-last m z q x;
-    places = λ q x. g .places q x ∙ rw d (sym (counted img sought n first at ((rw e at h) .reads .same)));
-    base-kept = λ q x. g .base q x ∙ b;
+    places = λ q x. g .places q x ∙ sym (counted img sought n first at ((rw e at h) .reads .same));
+    base-kept = g .base-kept;
     few = omega (arith, g .few);
     wide = g .wide;
   }
@@ -163,13 +164,13 @@ module _ {img : List ℕ} {sought n : ℕ} {at mid : Cursor} {base : Place} (h :
           let k : number-read 16 (drop m img) ≡ got n (drop first img) = (rw (z, e) at h) .reads .same in
           rw k (g .last q x)
 
-  pub queue-stop : {f : Fault} {old : InodeLayerStack} → mid ≡ Stop f → length (old .deltas) ≡ 17 → old .count ≤ 16
+  pub queue-stop : {f : Fault} {old : InodeLayerStack} → mid ≡ Stop f → Bare base old
       → GathersQueue img sought at base (record { stack = old; any = false; last = 0; next = Stop f })
-  queue-stop {f} e w few = record {
+  queue-stop {f} e b = record {
     ends = ends-chosen (number-read 16) (λ n s. rowsFrom byNumber inode batchRest n none s) (rw e at (h .reads)) (ends-stop img _);
     last = λ m q z x. no-place {f = f} refl x;
     places = λ q x. no-place {f = f} refl x;
     base-kept = λ q x. no-place {f = f} refl x;
-    few = few;
-    wide = w;
+    few = omega (arith, b .few);
+    wide = b .wide;
   }

@@ -9,7 +9,7 @@ use native.Mathlib.Omega.{arith}
 use lib.Dec.{ltb}
 use lib.ListN.{length, getD, drop, drop-of-length-le}
 use lib.Seq.{drop-cons}
-use borrow.Author.Tests.{lt-ltb, le-ltb, ltb-false}
+use borrow.Author.Tests.{lt-ltb, le-ltb, ltb-true, ltb-false}
 use Rattle.wire.specs.declared.cursor.Fault.{Fault}
 use Rattle.wire.specs.declared.cursor.Fault.the-variants.{Malformed}
 use Rattle.wire.specs.declared.cursor.Cursor.{Cursor}
@@ -32,7 +32,7 @@ use Rattle.image.specs.Places.{passed, Ends, rowsFrom, lastKey, lastOf, inodeBe
 use Rattle.survey.specs.Gathering.{listIf, queueRows, Pushed, GathersQueue}
 use Rattle.passes.specs.Held.{placeOf, foundAt, Finds}
 use Rattle.survey.specs.Survey.{tailAfter, Surveys}
-use Rattle.survey.specs.Verdict.{verdictOf}
+use Rattle.survey.specs.Verdict.{verdictOf, verdictAt}
 use Rattle.survey.specs.declared.store.Survey.{Survey}
 use Rattle.survey.specs.declared.store.Verdict.the-variants.{Fine, TooLong, Broken}
 use Rattle.passes.specs.declared.inode.Held.the-variants as H
@@ -246,6 +246,15 @@ module _ {img : List ℕ} {sought : ℕ} {s : Survey} (w : Surveys img sought s)
   is-broken e =
       let r = ends-fault (rw e at (w .ends)) in
       rw (le-ltb 65536 (length img) short, r)
+
+  -- the end of the store gives the verdict
+  pub verdict-known : (end : Cursor) → s .end ≡ end → verdictAt end (length img) ≡ verdictOf img
+  verdict-known (At q) e = go (ltb q (length img)) refl
+    where
+      go : (b : Bool) → ltb q (length img) ≡ b → cond b Broken Fine ≡ verdictOf img
+      go true h = is-longer e (ltb-true q (length img) h)
+      go false h = is-fine e (ltb-false q (length img) h)
+  verdict-known (Stop f) e = is-broken e
 
 pub is-long : (img : List ℕ) → 65536 < length img → TooLong ≡ verdictOf img
 unfolding verdictOf

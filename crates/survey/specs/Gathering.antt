@@ -54,6 +54,12 @@ batchPlaces size sought zero s = []
 batchPlaces size sought (suc n) s =
     orNone (restOf (batchHead .read s)) (λ r. listIf (recordPlace size sought r) ++ orNone (restOf (records .read r)) (λ q. batchPlaces size sought n q))
 
+-- no record
+pub record Bare (base : Place) (new : InodeLayerStack) : Type 0 where
+  pub few : new .count ≡ 0
+  pub wide : length (new .deltas) ≡ 17
+  pub base-kept : new .base ≡ base
+
 -- a place more, if it is one
 pub record Pushed (old : InodeLayerStack) (place : Option ℕ) (new : InodeLayerStack) : Type 0 where
   pub places : deltasOf new ≡ deltasOf old ++ listIf place
@@ -69,12 +75,12 @@ abbrev pub asOption : {A : Type 0} → Parsed A → Option (A × List ℕ)
 asOption (fault f) = none
 asOption (got a r) = some (a, r)
 
--- n batches were passed, from `first` on: where they end, the last id, and the places
-pub record Gathers (img : List ℕ) (sought first n : ℕ) (old : InodeLayerStack) (r : BatchesRead) : Type 0 where
+-- n batches were passed, from `first` on: where they end, the last id, and the places over the node found in the base
+pub record Gathers (img : List ℕ) (sought first n : ℕ) (base : Place) (r : BatchesRead) : Type 0 where
   pub ends : Ends img (rowsFrom byNumber inode batchRest n none) (C.At first) (r .next)
   pub last : (q : ℕ) → r .next ≡ C.At q → lastOf none (rowsFrom byNumber inode batchRest n none (drop first img)) ≡ got (inodeBefore (r .any) (r .last)) (drop q img)
-  pub places : (q : ℕ) → r .next ≡ C.At q → deltasOf (r .stack) ≡ deltasOf old ++ batchPlaces (length img) sought n (drop first img)
-  pub base : (q : ℕ) → r .next ≡ C.At q → r .stack .base ≡ old .base
+  pub places : (q : ℕ) → r .next ≡ C.At q → deltasOf (r .stack) ≡ batchPlaces (length img) sought n (drop first img)
+  pub base-kept : (q : ℕ) → r .next ≡ C.At q → r .stack .base ≡ base
   pub few : r .stack .count ≤ n
   pub wide : length (r .stack .deltas) ≡ 17
 
@@ -83,7 +89,7 @@ abbrev pub queuePlaces : List ℕ → ℕ → Cursor → List ℕ
 queuePlaces img sought (C.At n) = orNone (asOption (number-read 16 (drop n img))) (λ p. batchPlaces (length img) sought (p .0) (p .1))
 queuePlaces img sought (C.Stop f) = []
 
--- the batches were passed: where they end, the last id, and the places over the node found in the base
+-- the whole list was passed
 pub record GathersQueue (img : List ℕ) (sought : ℕ) (at : Cursor) (base : Place) (r : BatchesRead) : Type 0 where
   pub ends : Ends img (queueRows .read) at (r .next)
   pub last : (n q : ℕ) → at ≡ C.At n → r .next ≡ C.At q → lastOf none (queueRows .read (drop n img)) ≡ got (inodeBefore (r .any) (r .last)) (drop q img)

@@ -6,6 +6,8 @@ use mathlib.Core.Option.{Option, none, some}
 use Prim.Native.Nat.{ℕ}
 use lib.Dec.{ltb}
 use lib.ListN.{length}
+use Rattle.wire.specs.declared.cursor.Cursor.{Cursor}
+use Rattle.wire.specs.declared.cursor.Cursor.the-variants as C
 use Rattle.wire.specs.Parse.{Parsed, fault, got}
 use Rattle.image.specs.Meaning.{Store}
 use Rattle.image.specs.RoundTrip.{readImage}
@@ -33,6 +35,11 @@ judge (got s r) = D.Fine
 
 unfoldable pub verdictOf : List ℕ → Verdict
 verdictOf img = cond (ltb 65536 (length img)) D.TooLong (judge (readImage img))
+
+-- the same by the end of the store in an image of so many bytes
+abbrev pub verdictAt : Cursor → ℕ → Verdict
+verdictAt (C.At place) length = cond (ltb place length) D.Broken D.Fine
+verdictAt (C.Stop f) length = D.Broken
 
 -- the verdict, and the survey where the image is fine
 pub record Judges (img : List ℕ) (sought : ℕ) (r : ImageRead) : Type 0 where

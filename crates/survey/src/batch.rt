@@ -6,7 +6,7 @@ ghost use Rattle.wire.specs.Number.{between};
 ghost use Rattle.wire.specs.Reading.{Reads};
 ghost use Rattle.image.specs.Places.{Ends};
 ghost use Rattle.passes.specs.Held.{placeOf};
-ghost use Rattle.survey.specs.Gathering.{headRest, Pushed, Gathers, GathersQueue};
+ghost use Rattle.survey.specs.Gathering.{headRest, Bare, Pushed, Gathers, GathersQueue};
 use image::field::pass_number;
 use image::field::pass_time;
 use passes::inode::Held;
@@ -31,6 +31,17 @@ pub struct BatchesRead {
     pub any: bool,
     pub last: u64,
     pub next: Cursor,
+}
+
+// The stack of an inode that no layer has a record of.
+pub fn bare_stack(base: Place) -> InodeLayerStack
+    ensures { λ r. ⌜ Bare base r ⌝ }
+{
+    InodeLayerStack {
+        base,
+        deltas: [0; 17],
+        count: 0,
+    }
 }
 
 // The stack with one place more, if it is one.
@@ -78,22 +89,20 @@ fn pass_head_rest(img: &[u8], at: Cursor) -> Cursor
     pass_time(img, committed)
 }
 
-// Passes `count` batches, the first of which is at `first`, and pushes the places of the records that they hold of one inode.
-fn gather_batches(
-    img: &[u8],
-    first: usize,
-    count: u64,
-    sought: u64,
-    stack: InodeLayerStack,
-) -> BatchesRead
-    requires { ⌜ (first ≤ length (now img)) × (count ≤ 16) × (stack .count ≡ 0) × (length (stack .deltas) ≡ 17) ⌝ }
-    ensures { λ r. ⌜ Gathers (now (img .entry)) sought first count stack r ⌝ }
+// Passes `count` batches, the first of which is at `first`, and gathers the places of the records that they hold of one inode.
+fn gather_batches(img: &[u8], first: usize, count: u64, sought: u64, base: Place) -> BatchesRead
+    requires { ⌜ (first ≤ length (now img)) × (count ≤ 16) ⌝ }
+    ensures { λ r. ⌜ Gathers (now (img .entry)) sought first count base r ⌝ }
 {
     let mut left = count;
     let mut here = first;
     let mut any = false;
     let mut last: u64 = 0;
-    let mut gathered = stack;
+    let mut gathered = InodeLayerStack {
+        base,
+        deltas: [0; 17],
+        count: 0,
+    };
     while 0 < left {
         let id = inode_after(img, Cursor::At(here), any, last);
         let named = id.next;
@@ -127,17 +136,12 @@ fn gather_batches(
 pub fn gather_queue(img: &[u8], at: Cursor, sought: u64, base: Place) -> BatchesRead
     ensures { λ r. ⌜ GathersQueue (now (img .entry)) sought at base r ⌝ }
 {
-    let stack = InodeLayerStack {
-        base,
-        deltas: [0; 17],
-        count: 0,
-    };
     let count = read_number(img, at, 16);
     let next = count.next;
     match next {
-        Cursor::At(first) => gather_batches(img, first, count.value, sought, stack),
+        Cursor::At(first) => gather_batches(img, first, count.value, sought, base),
         Cursor::Stop(fault) => BatchesRead {
-            stack,
+            stack: bare_stack(base),
             any: false,
             last: 0,
             next: Cursor::Stop(fault),

@@ -2,8 +2,9 @@
 ghost use mathlib.Core.Path.{_≡_};
 ghost use Rattle.image.specs.Places.{Ends, inodeBefore};
 ghost use Rattle.survey.specs.Survey.{tailAfter, Surveyed};
-ghost use Rattle.survey.specs.Verdict.{Judges, refusalNumber};
+ghost use Rattle.survey.specs.Verdict.{verdictAt, Judges, refusalNumber};
 use crate::batch::InodeLayerStack;
+use crate::batch::bare_stack;
 use crate::batch::gather_queue;
 use crate::batch::pushed;
 use image::field::pass_number;
@@ -92,33 +93,28 @@ pub fn read_image(img: &[u8], sought: u64) -> ImageRead
     }
     let survey = survey_store(img, sought);
     let end = survey.end;
+    let verdict = verdict_at(end, img.len());
+    ImageRead { survey, verdict }
+}
+
+// What the end of the store says of an image of `length` bytes.
+fn verdict_at(end: Cursor, length: usize) -> Verdict
+    ensures { λ r. ⌜ r ≡ verdictAt end length ⌝ }
+{
     match end {
         Cursor::At(place) => {
-            if place < img.len() {
-                return ImageRead {
-                    survey,
-                    verdict: Verdict::Broken,
-                };
+            if place < length {
+                return Verdict::Broken;
             }
-            ImageRead {
-                survey,
-                verdict: Verdict::Fine,
-            }
+            Verdict::Fine
         }
-        Cursor::Stop(_) => ImageRead {
-            survey,
-            verdict: Verdict::Broken,
-        },
+        Cursor::Stop(_) => Verdict::Broken,
     }
 }
 
 fn no_survey() -> Survey {
     Survey {
-        stack: InodeLayerStack {
-            base: Place::Nowhere,
-            deltas: [0; 17],
-            count: 0,
-        },
+        stack: bare_stack(Place::Nowhere),
         batches: Cursor::At(0),
         live: Cursor::At(0),
         tail: Cursor::At(0),

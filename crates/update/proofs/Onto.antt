@@ -80,9 +80,6 @@ module _ (img given : List ℕ) (a b : AttrDelta) where
 
 -- ---- the live record
 
-pub regroup : (a b c d : List ℕ) → a ++ (b ++ (c ++ d)) ≡ a ++ ((b ++ c) ++ d)
-regroup a b c d = simp append-assoc
-
 -- what a delta writes after its fields
 abbrev pub changed : Change → List ℕ
 changed c = changePart (changedKind c) .write (changePartOf c)
@@ -135,7 +132,7 @@ module _ {img : List ℕ} {at v : ℕ} (start : Cursor) (n : Answers img (number
           let c = code-read after d w .0 in
           let m = changesAnew img given (a .xattrs) (b .xattrs) in
           (λ j. numberBytes (c j) ++ (attrBytes (attrOver a b) ++ (m ++ change-span j)))
-          ∙ regroup (numberBytes (codeOf d)) (attrBytes (attrOver a b)) m (changed (d .change))
+          ∙ ap (λ (l : List ℕ). numberBytes (codeOf d) ++ l) (sym (append-assoc (attrBytes (attrOver a b)) m (changed (d .change))))
           ∙ ap (λ (t : List ℕ). numberBytes (codeOf d) ++ (t ++ changed (d .change)))
           (fields-over-bytes img given a b end (at + length (numberBytes (codeOf d)) + length (fields .write (d .fields))) h changes-listed
           ∙ ap (λ (x : Fields). fields .write (mergeFields (fieldsMeant given a) x)) (fields-read .0))

@@ -2,7 +2,7 @@
 -- Assumes nothing.
 use mathlib.Core.Path.{_≡_, refl, sym, ap, _∙_}
 use mathlib.Core.Bool.{Bool, true, false, not}
-use mathlib.Core.List.{List, [], _∷_, _++_}
+use mathlib.Core.List.{List, [], _∷_, _++_, append-assoc}
 use mathlib.Core.Option.{Option, none, some}
 use Prim.Native.Nat.{ℕ, suc, _+_}
 use lib.ListN.{length, drop}
@@ -64,7 +64,7 @@ use Rattle.overlay.specs.declared.write.NewLive.{NewLive}
 use Rattle.change.proofs.Finishing.{not-false, changes-refused, changes-made}
 use Rattle.change.proofs.Cutting.{get-here}
 use Rattle.overlay.proofs.Living.{read-whole, read-longer, tombstone-bytes, is-cut, replaced-image, unchanged-image}
-use Rattle.update.proofs.Onto.{regroup, changed, delta-bytes}
+use Rattle.update.proofs.Onto.{changed, delta-bytes}
 
 -- ---- no live record
 
@@ -94,7 +94,7 @@ new-delta-bytes : (img given : List ℕ) (k : Kind) (a : AttrDelta) (after end :
 new-delta-bytes img given k a after end h =
     let c = numberBytes (suc (kindNumber k)) in
     (λ j. c ++ (attrBytes a ++ (only-given img given (a .xattrs) end h j ++ bare-bytes k j)))
-    ∙ regroup c (attrBytes a) (opt-write changes (listOf given U.Change (a .xattrs))) (changed (bareChange k))
+    ∙ ap (λ (l : List ℕ). c ++ l) (sym (append-assoc (attrBytes a) (opt-write changes (listOf given U.Change (a .xattrs))) (changed (bareChange k))))
     ∙ sym (λ j. numberBytes (suc (kindNumber (bare-kind k j))) ++ (fields-bytes given a j ++ changed (bareChange k)))
     ∙ sym (delta-bytes (fieldsMeant given a) (bareChange k))
 

@@ -1,5 +1,6 @@
 //! bench FOLDER: times the static library, the published Rust and an in-place reader on the same images, in one run, and writes
 //! FOLDER/BENCHMARKS.md and its plots.
+//! bench --ours: times the static library alone, and writes a line for each call and image (against.py reads them).
 
 mod images;
 mod measure;
@@ -161,14 +162,30 @@ fn untimed(title: &str, call: &Call) -> Option<&'static str> {
 
 const ROOT_ALONE: &str = "The root alone";
 
-/// A table for each image; the calls whose ratio is not as it should be.
-fn tables(port: &mut Port, out: &mut String) -> Vec<String> {
-    let images = [
+fn titled() -> [(&'static str, Vec<u8>); 4] {
+    [
         (ROOT_ALONE, images::root()),
         ("Small", images::least()),
         ("Medium", images::of_length(8192)),
         ("Full", images::of_length(65_200)),
-    ];
+    ]
+}
+
+/// The call, the image's length, the nanoseconds.
+fn ours_alone() {
+    let mut lent = Lent::default();
+    for (title, image) in titled() {
+        for (name, call) in calls() {
+            if untimed(title, &call).is_none() {
+                println!("{name}\t{}\t{:.1}", image.len(), repeated(|| lent.call(black_box(&image), &call)));
+            }
+        }
+    }
+}
+
+/// A table for each image; the calls whose ratio is not as it should be.
+fn tables(port: &mut Port, out: &mut String) -> Vec<String> {
+    let images = titled();
     let calls = calls();
     let mut least = vec![[Times::NONE; 4]; calls.len()];
     for pass in 1..=PASSES {
@@ -249,7 +266,10 @@ fn against_reader(lines: &[Line], out: &mut String) {
 }
 
 fn main() {
-    let folder = std::env::args().nth(1).expect("bench FOLDER");
+    let folder = std::env::args().nth(1).expect("bench FOLDER, or bench --ours");
+    if folder == "--ours" {
+        return ours_alone();
+    }
     let folder = Path::new(&folder);
     let date = std::env::var("BENCH_DATE").unwrap_or_default();
     let machine = std::env::var("BENCH_MACHINE").unwrap_or_default();

@@ -1,17 +1,19 @@
 use borrow.Author.Needs.{needs}
+use mathlib.Core.Path.{refl}
 use native.Mathlib.Omega.{arith}
 use Rattle.survey.proofs.Batches.{Going, going-start, going-all, going-stop, going-on}
 use Rattle.survey.proofs.batch.gather_batches.Statement.{statement}
 use Rattle.survey.proofs.batch.gather_batches.Tie as tie
 
 abbrev Inv-loop : tie.InvT-loop
-Inv-loop img first count sought left₀ here₀ any₀ last₀ gathered₀ left here any last gathered = Going img sought first count gathered₀ any last here left gathered
+Inv-loop img first count sought left₀ here₀ any₀ last₀ gathered₀ left here any last gathered =
+    Going img sought first count (gathered₀ .base) any last here left gathered
 
 abbrev μ-loop : tie.MeasureT-loop
 μ-loop img first count sought left₀ here₀ any₀ last₀ gathered₀ left here any last gathered = left
 
 loop-holds : tie.Need-loop-holds Inv-loop μ-loop
-loop-holds c = going-start (c .before .pre .0) (c .before .pre .2) (c .before .pre .3)
+loop-holds c = going-start (c .before .pre .0) refl
 
 inode-after-requires : tie.Need-inode-after-requires Inv-loop μ-loop
 inode-after-requires c κs = search needs
