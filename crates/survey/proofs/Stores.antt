@@ -226,7 +226,7 @@ module _ {img : List ℕ} {sought : ℕ} {c1 c3 c4 : Cursor} {place top : Place}
 -- ---- the verdict
 
 module _ {img : List ℕ} {sought : ℕ} {s : Survey} (w : Surveys img sought s) (short : length img ≤ 65536) where
-  pub is-fine : {q : ℕ} → s .end ≡ At q → length img ≤ q → Fine ≡ verdictOf img
+  is-fine : {q : ℕ} → s .end ≡ At q → length img ≤ q → Fine ≡ verdictOf img
   unfolding verdictOf decode
   is-fine {q} e h =
       let g = ends-got (rw e at (w .ends)) in
@@ -234,14 +234,14 @@ module _ {img : List ℕ} {sought : ℕ} {s : Survey} (w : Surveys img sought s)
       let r : store .read img ≡ got (g .0) [] = g .1 ∙ ap (got (g .0)) n in
       rw (le-ltb 65536 (length img) short, r)
 
-  pub is-longer : {q : ℕ} → s .end ≡ At q → q < length img → Broken ≡ verdictOf img
+  is-longer : {q : ℕ} → s .end ≡ At q → q < length img → Broken ≡ verdictOf img
   unfolding verdictOf decode
   is-longer {q} e h =
       let g = ends-got (rw e at (w .ends)) in
       let r : store .read img ≡ got (g .0) (getD img q 0 ∷ drop (suc q) img) = g .1 ∙ ap (got (g .0)) (drop-cons img q 0 h) in
       rw (le-ltb 65536 (length img) short, r)
 
-  pub is-broken : {f : Fault} → s .end ≡ Stop f → Broken ≡ verdictOf img
+  is-broken : {f : Fault} → s .end ≡ Stop f → Broken ≡ verdictOf img
   unfolding verdictOf decode
   is-broken e =
       let r = ends-fault (rw e at (w .ends)) in

@@ -172,11 +172,12 @@ fn titled() -> [(&'static str, Vec<u8>); 4] {
 }
 
 /// The call, the image's length, the nanoseconds.
-fn ours_alone() {
+fn ours_alone(port: &mut Port) {
     let mut lent = Lent::default();
     for (title, image) in titled() {
         for (name, call) in calls() {
             if untimed(title, &call).is_none() {
+                agree(port, &image, name, &call);
                 println!("{name}\t{}\t{:.1}", image.len(), repeated(|| lent.call(black_box(&image), &call)));
             }
         }
@@ -267,13 +268,13 @@ fn against_reader(lines: &[Line], out: &mut String) {
 
 fn main() {
     let folder = std::env::args().nth(1).expect("bench FOLDER, or bench --ours");
+    let mut port = Port::default();
     if folder == "--ours" {
-        return ours_alone();
+        return ours_alone(&mut port);
     }
     let folder = Path::new(&folder);
     let date = std::env::var("BENCH_DATE").unwrap_or_default();
     let machine = std::env::var("BENCH_MACHINE").unwrap_or_default();
-    let mut port = Port::default();
     let mut measured = String::new();
     let slower = tables(&mut port, &mut measured);
     let child = plotted(&mut port, &Call::Child { inode: ROOT, name: NAME.as_bytes().to_vec() }, true);
