@@ -1,2 +1,3 @@
 // What a delta makes of a node by value.
+#![tactic(auto)]
 pub mod node;

@@ -9,7 +9,7 @@ use deltas::delta::NodeDelta;
 use nodes::node::NodeKind;
 use wire::time::Time;
 
-#[derive(Drop)]
+#[derive(Clone, Copy)]
 pub enum FileType {
     Directory,
     RegularFile,
@@ -20,7 +20,7 @@ pub enum FileType {
     Socket,
 }
 
-#[derive(Drop)]
+#[derive(Clone, Copy)]
 pub struct FileAttr {
     pub ino: u64,
     pub file_type: FileType,

@@ -1,2 +1,3 @@
 // The new base: the nodes that fold makes of the stacks of a walk, written.
+#![tactic(auto)]
 pub mod node;

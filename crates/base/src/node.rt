@@ -53,7 +53,7 @@ fn stays(node: Node, drops: bool) -> bool
 }
 
 // Nodes that were written: the place after them, and how many they are.
-#[derive(Drop)]
+#[derive(Clone, Copy)]
 pub struct Nodes {
     pub end: usize,
     pub count: u64,

@@ -3,7 +3,7 @@ ghost use Rattle.std.specs.Prelude.{◌≡◌};
 ghost use Rattle.change.specs.Changed.{lacks_room};
 
 // The number of a refusal, or the length of the new image.
-#[derive(Drop)]
+#[derive(Clone, Copy)]
 pub enum ChangeAnswer {
     Refused(u32),
     Length(usize),

@@ -12,7 +12,7 @@ use wire::cursor::{Cursor, place_at};
 use wire::number::read_number;
 
 // `count` records from `first` on. That of the inode is from `row` to `after`, its code at `place`; if it has none, there is nothing between.
-#[derive(Drop)]
+#[derive(Clone, Copy)]
 pub struct Cut {
     pub count: u64,
     pub first: usize,

@@ -6,7 +6,7 @@ use survey::store::{read_image, refusal_number};
 use wire::cursor::place_at;
 
 // The base is from 0 to `batches`, and what follows live is from `tail` to the end.
-#[derive(Drop)]
+#[derive(Clone, Copy)]
 pub struct Sections {
     pub batches: usize,
     pub live: usize,
@@ -14,14 +14,14 @@ pub struct Sections {
 }
 
 // The refusal is 0 if there is none; with one, the sections say nothing.
-#[derive(Drop)]
+#[derive(Clone, Copy)]
 pub struct Opened {
     pub sections: Sections,
     pub refusal: u32,
 }
 
 // The same, and the stack of one inode.
-#[derive(Drop)]
+#[derive(Clone, Copy)]
 pub struct OpenedInode {
     pub sections: Sections,
     pub stack: InodeLayerStack,

@@ -12,7 +12,7 @@ use wire::cursor::Cursor;
 use wire::number::read_number;
 
 // Added entries and removed names are lists in the image.
-#[derive(Drop)]
+#[derive(Clone, Copy)]
 pub struct DirectoryDelta {
     pub parent: OptionU64,
     pub added: Part,
@@ -20,26 +20,26 @@ pub struct DirectoryDelta {
     pub attr_delta: AttrDelta,
 }
 
-#[derive(Drop)]
+#[derive(Clone, Copy)]
 pub struct FileDelta {
     pub size: OptionU64,
     pub attr_delta: AttrDelta,
 }
 
 // The target is a text in the image.
-#[derive(Drop)]
+#[derive(Clone, Copy)]
 pub struct SymlinkDelta {
     pub target: OptionPart,
     pub attr_delta: AttrDelta,
 }
 
-#[derive(Drop)]
+#[derive(Clone, Copy)]
 pub struct SpecialDelta {
     pub rdev: u32,
     pub attr_delta: AttrDelta,
 }
 
-#[derive(Drop)]
+#[derive(Clone, Copy)]
 pub enum NodeDelta {
     Directory(DirectoryDelta),
     File(FileDelta),
@@ -50,19 +50,19 @@ pub enum NodeDelta {
     Socket(SpecialDelta),
 }
 
-#[derive(Drop)]
+#[derive(Clone, Copy)]
 pub enum EntryDelta {
     Node(NodeDelta),
     Tombstone,
 }
 
-#[derive(Drop)]
+#[derive(Clone, Copy)]
 pub struct EntryDeltaRead {
     pub delta: EntryDelta,
     pub next: Cursor,
 }
 
-#[derive(Drop)]
+#[derive(Clone, Copy)]
 pub struct NodeDeltaRead {
     pub delta: NodeDelta,
     pub next: Cursor,

@@ -8,7 +8,7 @@ use wire::number::read_number;
 use writers::batch::read_batch_head;
 
 // The ids of the batches, front first, and for each, and for live after them, the place of its record, or 0. No record stands at 0.
-#[derive(Drop)]
+#[derive(Clone, Copy)]
 pub struct Labels {
     pub ids: [u64; 17],
     pub places: [usize; 17],

@@ -2,6 +2,7 @@
 // the answer; or only `refused N`.
 //
 //     explain INODE NAME < IMAGE
+#![tactic(auto)]
 mod label;
 mod show;
 
@@ -19,7 +20,7 @@ use survey::batch::InodeLayerStack;
 use trace::said::deciding;
 use wire::part::part;
 
-#[derive(Drop)]
+#[derive(Clone, Copy)]
 enum Decimal {
     Number(u64),
     NoNumber,

@@ -9,7 +9,7 @@ use rows::listing::{Entry, list_directory, list_xattrs};
 
 // `count` is that of the rows filled.
 #[repr(C)]
-#[derive(Drop)]
+#[derive(Clone, Copy)]
 pub struct RowsReply {
     pub refusal: u32,
     pub found: bool,

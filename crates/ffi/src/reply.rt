@@ -15,7 +15,7 @@ use wire::part::part;
 use wire::time::Time;
 
 #[repr(C)]
-#[derive(Drop)]
+#[derive(Clone, Copy)]
 pub struct YesNoReply {
     pub refusal: u32,
     pub yes: bool,
@@ -23,7 +23,7 @@ pub struct YesNoReply {
 
 // `kind` is from 0 to 6.
 #[repr(C)]
-#[derive(Drop)]
+#[derive(Clone, Copy)]
 pub struct TypeReply {
     pub refusal: u32,
     pub found: bool,
@@ -31,7 +31,7 @@ pub struct TypeReply {
 }
 
 #[repr(C)]
-#[derive(Drop)]
+#[derive(Clone, Copy)]
 pub struct InodeReply {
     pub refusal: u32,
     pub found: bool,
@@ -39,14 +39,14 @@ pub struct InodeReply {
 }
 
 #[repr(C)]
-#[derive(Drop)]
+#[derive(Clone, Copy)]
 pub struct Timestamp {
     pub seconds: i64,
     pub nanos: u32,
 }
 
 #[repr(C)]
-#[derive(Drop)]
+#[derive(Clone, Copy)]
 pub struct Attr {
     pub ino: u64,
     pub kind: u32,
@@ -62,7 +62,7 @@ pub struct Attr {
 }
 
 #[repr(C)]
-#[derive(Drop)]
+#[derive(Clone, Copy)]
 pub struct AttrReply {
     pub refusal: u32,
     pub found: bool,
@@ -71,7 +71,7 @@ pub struct AttrReply {
 
 // The text is the part of the image from `start` on, of `length` bytes.
 #[repr(C)]
-#[derive(Drop)]
+#[derive(Clone, Copy)]
 pub struct TextReply {
     pub refusal: u32,
     pub found: bool,
@@ -81,7 +81,7 @@ pub struct TextReply {
 
 // `length` is that of the new image.
 #[repr(C)]
-#[derive(Drop)]
+#[derive(Clone, Copy)]
 pub struct ChangeReply {
     pub refusal: u32,
     pub length: usize,

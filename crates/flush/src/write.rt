@@ -14,7 +14,7 @@ use wire::put::advance;
 use writers::tail::{Tail, put_tail};
 
 // What follows the new base.
-#[derive(Drop)]
+#[derive(Clone, Copy)]
 pub enum Flush {
     // the old image, from its batches on
     Fold(usize),

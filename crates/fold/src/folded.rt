@@ -22,7 +22,7 @@ use wire::put::put_part;
 use writers::write_attr::put_inode_meta;
 
 // Where a list of a folded node comes from.
-#[derive(Drop)]
+#[derive(Clone, Copy)]
 pub enum Origin {
     // it is that of the base node, as it stands in the image
     Base(Part),
@@ -33,14 +33,14 @@ pub enum Origin {
 }
 
 // A node of a stack. Its lists are beside it.
-#[derive(Drop)]
+#[derive(Clone, Copy)]
 pub struct Folded {
     pub node: Node,
     pub attributes: Origin,
     pub entries: Origin,
 }
 
-#[derive(Drop)]
+#[derive(Clone, Copy)]
 pub enum OptionFolded {
     Some(Folded),
     None,

@@ -20,14 +20,14 @@ use wire::put::advance;
 use writers::write::{put_entry, put_text_part};
 
 // The entries of a directory, or the attributes.
-#[derive(Drop)]
+#[derive(Clone, Copy)]
 pub enum NameList {
     Entries,
     Attributes,
 }
 
 // Rows that were written: the place after them, and how many they are.
-#[derive(Drop)]
+#[derive(Clone, Copy)]
 pub struct Rows {
     pub end: usize,
     pub count: u64,

@@ -20,7 +20,7 @@ use stack::stack::{OptionNode, base_node, record_at};
 use survey::batch::InodeLayerStack;
 
 // Which lists: the entries of a directory, the attributes, or the attributes without the changes of deltas of another type.
-#[derive(Drop)]
+#[derive(Clone, Copy)]
 pub enum Lists {
     Entries,
     Attributes,

@@ -2,7 +2,7 @@
 ghost use Rattle.std.specs.Prelude.{◌≡◌};
 ghost use Rattle.image.specs.Letters.{letter_of};
 
-#[derive(Drop)]
+#[derive(Clone, Copy)]
 pub enum Letter {
     Of(u8),
     NoKind,

@@ -17,7 +17,7 @@ use wire::part::part;
 use wire::text::{TextRead, no_text, read_text};
 
 // What stands under each name of a list.
-#[derive(Drop)]
+#[derive(Clone, Copy)]
 pub enum Under {
     Nothing,
     Inode,

@@ -23,7 +23,7 @@ use wire::order::{Ordering, compare_part};
 use wire::part::part;
 
 // The place after the rows that stay, and how many they are.
-#[derive(Drop)]
+#[derive(Clone, Copy)]
 pub struct Kept {
     pub at: usize,
     pub count: u64,

@@ -2,7 +2,7 @@
 use attrs::node::{FileAttr, FileType};
 
 // exists, has_link, has_xattr
-#[derive(Drop)]
+#[derive(Clone, Copy)]
 pub enum YesNo {
     Refused(u32),
     No,
@@ -10,7 +10,7 @@ pub enum YesNo {
 }
 
 // file_type
-#[derive(Drop)]
+#[derive(Clone, Copy)]
 pub enum TypeAnswer {
     Refused(u32),
     None,
@@ -18,7 +18,7 @@ pub enum TypeAnswer {
 }
 
 // lookup_child, parent_dir_inode
-#[derive(Drop)]
+#[derive(Clone, Copy)]
 pub enum InodeAnswer {
     Refused(u32),
     None,
@@ -26,7 +26,7 @@ pub enum InodeAnswer {
 }
 
 // attr
-#[derive(Drop)]
+#[derive(Clone, Copy)]
 pub enum AttrAnswer {
     Refused(u32),
     None,
@@ -34,7 +34,7 @@ pub enum AttrAnswer {
 }
 
 // list_directory, list_xattrs: how many of the rows lent were filled
-#[derive(Drop)]
+#[derive(Clone, Copy)]
 pub enum RowsAnswer {
     Refused(u32),
     None,

@@ -15,7 +15,7 @@ use deltas::delta::EntryDelta;
 use stack::stack::{OptionNode, base_node, open_image, record_at};
 use survey::batch::InodeLayerStack;
 
-#[derive(Drop)]
+#[derive(Clone, Copy)]
 pub enum OptionAttr {
     Some(FileAttr),
     None,

@@ -11,21 +11,21 @@ use wire::cursor::{Cursor, place_at};
 use wire::number::read_number;
 
 // Where the next inode of a snapshot's base stands, and how many are left.
-#[derive(Drop)]
+#[derive(Clone, Copy)]
 pub struct Rows {
     pub at: usize,
     pub left: u64,
 }
 
 // The number of a refusal, or the inodes of the snapshot.
-#[derive(Drop)]
+#[derive(Clone, Copy)]
 pub enum Opened {
     Refused(u32),
     Lines(Rows),
 }
 
 // The place after a line, and the inodes left.
-#[derive(Drop)]
+#[derive(Clone, Copy)]
 pub struct Line {
     pub end: usize,
     pub rest: Rows,

@@ -1,6 +1,7 @@
 // The listing program: reads an image from standard input and writes a heading and a line for each inode of its snapshot, rising; or only
 // `refused N`. What is written is `listing_bytes` of crates/lines (`whole`, crates/lines/proofs/Whole.antt). The buffers are 65,537 bytes for the
 // image, so that a longer one is seen to be too long, 65,536 for its snapshot, and 128 for a line.
+#![tactic(auto)]
 ghost use Rattle.lines.specs.Rows.{HasRows};
 
 use libc::{STDIN_FILENO, STDOUT_FILENO};

@@ -11,14 +11,14 @@ use wire::order::{Ordering, compare_part};
 use wire::text::read_text;
 
 // Rows of a list: the place of the first, and how many there are.
-#[derive(Drop)]
+#[derive(Clone, Copy)]
 pub struct Rows {
     pub first: usize,
     pub count: u64,
 }
 
 // A row: its name, the place of what stands under the name, and the place after that.
-#[derive(Drop)]
+#[derive(Clone, Copy)]
 pub struct RowRead {
     pub start: usize,
     pub length: usize,

@@ -1,3 +1,4 @@
 // Two lists of attribute changes merged, and written.
+#![tactic(auto)]
 pub mod merged;
 pub mod row;

@@ -14,7 +14,7 @@ use wire::part::part;
 use wire::put::put_part;
 
 // The next row, from `start` to `end`, if there is more: one of the delta given, or of the image. Then the rows left of both.
-#[derive(Drop)]
+#[derive(Clone, Copy)]
 pub struct Turn {
     pub more: bool,
     pub own: bool,
@@ -97,7 +97,7 @@ fn put_turn(buf: &mut [u8], at: usize, img: &[u8], given: &[u8], turn: Turn) -> 
 }
 
 // The place after the rows, and how many they are.
-#[derive(Drop)]
+#[derive(Clone, Copy)]
 pub struct MergedRows {
     pub end: usize,
     pub count: u64,

@@ -8,14 +8,14 @@ use wire::number::read_number;
 use wire::text::read_text;
 
 // The rows that are left of a list: `count` of them, the first at `first`.
-#[derive(Drop)]
+#[derive(Clone, Copy)]
 pub struct Left {
     pub first: usize,
     pub count: u64,
 }
 
 // The first of the rows that are left: its name, and the rows after it.
-#[derive(Drop)]
+#[derive(Clone, Copy)]
 pub struct Row {
     pub there: bool,
     pub start: usize,

@@ -11,14 +11,14 @@ use wire::order::{Ordering, compare_part};
 use wire::part::part;
 
 // The sources of a listing, `count` of them, the topmost first: at most two lists of each record, and one of the base. Three numbers of each.
-#[derive(Drop)]
+#[derive(Clone, Copy)]
 pub struct Sources {
     pub rows: [u64; 105],
     pub count: usize,
 }
 
 // The lists of a record or of a node, the upper first.
-#[derive(Drop)]
+#[derive(Clone, Copy)]
 pub enum AtMostTwo {
     None,
     One(Source),
@@ -26,7 +26,7 @@ pub enum AtMostTwo {
 }
 
 // The first name that is given, with its start, inode and value, and the sources past it; or that no more is given.
-#[derive(Drop)]
+#[derive(Clone, Copy)]
 pub struct Merge {
     pub all: Sources,
     pub more: bool,
@@ -37,7 +37,7 @@ pub struct Merge {
 }
 
 // How many rows there are, or that there is no room for them.
-#[derive(Drop)]
+#[derive(Clone, Copy)]
 pub enum Counted {
     Rows(usize),
     TooMany,

@@ -12,7 +12,7 @@ use wire::number::read_number;
 use wire::text::read_text;
 
 // A list by name, of which `left` rows stand from `at` on.
-#[derive(Drop)]
+#[derive(Clone, Copy)]
 pub struct Source {
     pub at: usize,
     pub left: u64,
@@ -20,7 +20,7 @@ pub struct Source {
 }
 
 // The first row of a source, if there is one: it gives its name an inode or a value, or removes it. The rows after it are at `next`.
-#[derive(Drop)]
+#[derive(Clone, Copy)]
 pub struct Head {
     pub more: bool,
     pub start: usize,
@@ -31,7 +31,7 @@ pub struct Head {
     pub next: usize,
 }
 
-#[derive(Drop)]
+#[derive(Clone, Copy)]
 pub struct Choice {
     pub given: bool,
     pub inode: u64,

@@ -10,7 +10,7 @@ use wire::cursor::Cursor;
 use wire::number::read_number;
 
 // Each field is there, or not. The attribute changes are a list in the image.
-#[derive(Drop)]
+#[derive(Clone, Copy)]
 pub struct AttrDelta {
     pub mode: OptionU32,
     pub uid: OptionU32,
@@ -23,7 +23,7 @@ pub struct AttrDelta {
     pub xattrs: OptionPart,
 }
 
-#[derive(Drop)]
+#[derive(Clone, Copy)]
 pub struct AttrDeltaRead {
     pub attr_delta: AttrDelta,
     pub next: Cursor,
@@ -58,7 +58,7 @@ pub fn read_attr_delta(img: &[u8], at: Cursor) -> AttrDeltaRead
 }
 
 // The first four fields.
-#[derive(Drop)]
+#[derive(Clone, Copy)]
 pub struct Words {
     pub mode: OptionU32,
     pub uid: OptionU32,
@@ -99,7 +99,7 @@ fn read_later(img: &[u8], at: Cursor, bits: u64, words: Words) -> AttrDeltaRead
 }
 
 // The four times.
-#[derive(Drop)]
+#[derive(Clone, Copy)]
 pub struct Times {
     pub atime: OptionTime,
     pub mtime: OptionTime,

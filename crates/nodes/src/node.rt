@@ -12,7 +12,7 @@ use wire::text::read_text;
 use wire::time::{Time, read_time};
 
 // The extended attributes are a list in the image.
-#[derive(Drop)]
+#[derive(Clone, Copy)]
 pub struct InodeMeta {
     pub perm: u32,
     pub nlink: u32,
@@ -24,14 +24,14 @@ pub struct InodeMeta {
     pub xattrs: Part,
 }
 
-#[derive(Drop)]
+#[derive(Clone, Copy)]
 pub struct MetaRead {
     pub meta: InodeMeta,
     pub next: Cursor,
 }
 
 // What a node has by its kind. Entries are a list in the image, a target is a text there.
-#[derive(Drop)]
+#[derive(Clone, Copy)]
 pub enum NodeKind {
     Directory { parent: u64, entries: Part },
     File { size: u64 },
@@ -42,19 +42,19 @@ pub enum NodeKind {
     Socket,
 }
 
-#[derive(Drop)]
+#[derive(Clone, Copy)]
 pub struct KindRead {
     pub kind: NodeKind,
     pub next: Cursor,
 }
 
-#[derive(Drop)]
+#[derive(Clone, Copy)]
 pub struct Node {
     pub meta: InodeMeta,
     pub kind: NodeKind,
 }
 
-#[derive(Drop)]
+#[derive(Clone, Copy)]
 pub struct NodeRead {
     pub node: Node,
     pub next: Cursor,

@@ -13,49 +13,49 @@ use wire::number::read_number;
 use wire::text::read_text;
 use wire::time::{Time, read_time};
 
-#[derive(Drop)]
+#[derive(Clone, Copy)]
 pub enum OptionU32 {
     Some(u32),
     None,
 }
 
-#[derive(Drop)]
+#[derive(Clone, Copy)]
 pub enum OptionU64 {
     Some(u64),
     None,
 }
 
-#[derive(Drop)]
+#[derive(Clone, Copy)]
 pub enum OptionTime {
     Some(Time),
     None,
 }
 
-#[derive(Drop)]
+#[derive(Clone, Copy)]
 pub enum OptionPart {
     Some(Part),
     None,
 }
 
-#[derive(Drop)]
+#[derive(Clone, Copy)]
 pub struct OptionU32Read {
     pub option: OptionU32,
     pub next: Cursor,
 }
 
-#[derive(Drop)]
+#[derive(Clone, Copy)]
 pub struct OptionU64Read {
     pub option: OptionU64,
     pub next: Cursor,
 }
 
-#[derive(Drop)]
+#[derive(Clone, Copy)]
 pub struct OptionTimeRead {
     pub option: OptionTime,
     pub next: Cursor,
 }
 
-#[derive(Drop)]
+#[derive(Clone, Copy)]
 pub struct OptionPartRead {
     pub option: OptionPart,
     pub next: Cursor,

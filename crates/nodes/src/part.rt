@@ -6,13 +6,13 @@ use image::name::{Under, pass_names};
 use wire::cursor::Cursor;
 
 // The `length` bytes of the image from `start` on.
-#[derive(Drop)]
+#[derive(Clone, Copy)]
 pub struct Part {
     pub start: usize,
     pub length: usize,
 }
 
-#[derive(Drop)]
+#[derive(Clone, Copy)]
 pub struct PartRead {
     pub part: Part,
     pub next: Cursor,

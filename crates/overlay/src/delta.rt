@@ -9,7 +9,7 @@ use passes::inode::Place;
 use wire::cursor::Cursor;
 
 // A directory delta. A list that isn't there is empty.
-#[derive(Drop)]
+#[derive(Clone, Copy)]
 pub struct LiveDelta {
     pub attr_delta: AttrDelta,
     pub parent: OptionU64,
@@ -18,7 +18,7 @@ pub struct LiveDelta {
 }
 
 // What add entry, remove entry and set parent act on.
-#[derive(Drop)]
+#[derive(Clone, Copy)]
 pub enum LiveDirectory {
     Directory(LiveDelta),
     // a record of another sort, on which they do nothing

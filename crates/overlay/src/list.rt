@@ -11,7 +11,7 @@ use wire::put::put_part;
 use wire::text::put_text;
 
 // The row of a name, afterwards.
-#[derive(Drop)]
+#[derive(Clone, Copy)]
 pub enum NewRow {
     Absent,
     // the name given, alone
@@ -21,14 +21,14 @@ pub enum NewRow {
 }
 
 // A part of a list that goes. Only a rename inside one directory has one that isn't empty: there a second name's row goes.
-#[derive(Drop)]
+#[derive(Clone, Copy)]
 pub struct Gap {
     pub start: usize,
     pub end: usize,
 }
 
 // `count` rows from `first` to `end`. What stands from `row` to `after` gives way to the row of a name; the gaps are below it and above it.
-#[derive(Drop)]
+#[derive(Clone, Copy)]
 pub struct NewRows {
     pub count: u64,
     pub first: usize,
@@ -41,7 +41,7 @@ pub struct NewRows {
 }
 
 // A list, its count first.
-#[derive(Drop)]
+#[derive(Clone, Copy)]
 pub enum NewList {
     Empty,
     // as it stands in the image

@@ -18,7 +18,7 @@ use writers::write::put_maybe_number;
 use writers::write_attr::put_attr_delta;
 
 // A directory delta. Its attribute changes stand in the image.
-#[derive(Drop)]
+#[derive(Clone, Copy)]
 pub struct NewDirectory {
     pub attr_delta: AttrDelta,
     pub parent: OptionU64,
@@ -27,7 +27,7 @@ pub struct NewDirectory {
 }
 
 // What a delta changes by its kind, afterwards.
-#[derive(Drop)]
+#[derive(Clone, Copy)]
 pub enum NewChange {
     // as it stands in the image, from this place to the end of the record
     Kept(usize),
@@ -36,7 +36,7 @@ pub enum NewChange {
 }
 
 // A delta of this code. Its attribute changes are those of the delta given, merged with those in the image.
-#[derive(Drop)]
+#[derive(Clone, Copy)]
 pub struct Updated {
     pub code: u64,
     pub attr_delta: AttrDelta,
@@ -45,7 +45,7 @@ pub struct Updated {
     pub change: NewChange,
 }
 
-#[derive(Drop)]
+#[derive(Clone, Copy)]
 pub enum NewRecord {
     // as it is
     Same,
@@ -57,7 +57,7 @@ pub enum NewRecord {
 }
 
 // The live record of an inode. What stands from `row` to `after` gives way to it.
-#[derive(Drop)]
+#[derive(Clone, Copy)]
 pub struct Edit {
     pub inode: u64,
     pub row: usize,
@@ -66,7 +66,7 @@ pub struct Edit {
 }
 
 // What is copied before a record that changes.
-#[derive(Drop)]
+#[derive(Clone, Copy)]
 pub enum Lead {
     // the image up to its live records, and these up to the record
     Head(Head),
@@ -75,7 +75,7 @@ pub enum Lead {
 }
 
 // The live records' count stands at `live` in the old image; in the new one there are `count`. The first of the old ones is at `first`.
-#[derive(Drop)]
+#[derive(Clone, Copy)]
 pub struct Head {
     pub live: usize,
     pub count: u64,

@@ -10,7 +10,7 @@ use change::cut::{Cut, count_after};
 use change::section::Sections;
 
 // The live records afterwards: `count` of them, and those from `first` on with one changed.
-#[derive(Drop)]
+#[derive(Clone, Copy)]
 pub struct NewLive {
     pub count: u64,
     pub first: usize,
@@ -18,7 +18,7 @@ pub struct NewLive {
 }
 
 // The same with the first `number` of these changed, the least inode first; four, where the number is above 3. For rename.
-#[derive(Drop)]
+#[derive(Clone, Copy)]
 pub struct NewRecords {
     pub count: u64,
     pub first: usize,

@@ -14,20 +14,20 @@ use wire::cursor::{Cursor, Fault};
 use wire::number::{NumberRead, no_number, read_number};
 
 // What stands under each inode of a list.
-#[derive(Drop)]
+#[derive(Clone, Copy)]
 pub enum Held {
     Node,
     Record,
 }
 
 // Where something stands in the image, if it does.
-#[derive(Drop)]
+#[derive(Clone, Copy)]
 pub enum Place {
     At(usize),
     Nowhere,
 }
 
-#[derive(Drop)]
+#[derive(Clone, Copy)]
 pub struct InodeRead {
     pub place: Place,
     pub next: Cursor,

@@ -1,2 +1,3 @@
 // The calls that fill lent rows: the entries of a directory, the names of extended attributes.
+#![tactic(auto)]
 pub mod listing;

@@ -19,7 +19,7 @@ use stack::stack::open_image;
 use survey::batch::InodeLayerStack;
 
 // The names of a directory's entries, or those of the attributes.
-#[derive(Drop)]
+#[derive(Clone, Copy)]
 pub enum Listing {
     Entries,
     Attributes,
@@ -36,7 +36,7 @@ fn lists_of(listing: Listing) -> Lists
 
 // A row of a listing: where the name starts in the image, its length, and the inode; 0 for an attribute.
 #[repr(C)]
-#[derive(Drop)]
+#[derive(Clone, Copy)]
 pub struct Entry {
     pub start: usize,
     pub length: usize,
@@ -44,7 +44,7 @@ pub struct Entry {
 }
 
 // What a listing answers, and the rows that it fills.
-#[derive(Drop)]
+#[derive(Clone, Copy)]
 pub struct Plan {
     pub merge: Merge,
     pub answer: RowsAnswer,

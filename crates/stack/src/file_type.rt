@@ -12,7 +12,7 @@ use deltas::delta::EntryDelta;
 use survey::batch::InodeLayerStack;
 
 // A type, if there is one.
-#[derive(Drop)]
+#[derive(Clone, Copy)]
 pub enum OptionType {
     Some(FileType),
     None,

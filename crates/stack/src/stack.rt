@@ -11,7 +11,7 @@ use survey::store::{read_image, refusal_number};
 use wire::cursor::Cursor;
 
 // The refusal is 0 if there is none; with one, the stack says nothing.
-#[derive(Drop)]
+#[derive(Clone, Copy)]
 pub struct Opened {
     pub stack: InodeLayerStack,
     pub refusal: u32,
@@ -32,7 +32,7 @@ pub fn open_image(img: &[u8], ino: u64) -> Opened
 }
 
 // A base node, if there is one.
-#[derive(Drop)]
+#[derive(Clone, Copy)]
 pub enum OptionNode {
     Some(Node),
     None,

@@ -12,14 +12,14 @@ use wire::cursor::{Cursor, Fault};
 use wire::number::{NumberRead, no_number, read_number};
 
 // An inode's node in the base, and its records in the layers that have one: `count` places, the front batch's first.
-#[derive(Drop)]
+#[derive(Clone, Copy)]
 pub struct InodeLayerStack {
     pub base: Place,
     pub deltas: [usize; 17],
     pub count: usize,
 }
 
-#[derive(Drop)]
+#[derive(Clone, Copy)]
 pub struct BatchesRead {
     pub stack: InodeLayerStack,
     pub any: bool,

@@ -10,7 +10,7 @@ use passes::inode::{Held, Place, find_inode, inode_after};
 use wire::cursor::Cursor;
 
 // Where the sections of an image stand, and the records of one inode. The base is at 0.
-#[derive(Drop)]
+#[derive(Clone, Copy)]
 pub struct Survey {
     pub stack: InodeLayerStack,
     pub batches: Cursor,
@@ -55,7 +55,7 @@ fn pass_tail(img: &[u8], at: Cursor, any: bool, last: u64) -> Cursor
 }
 
 // Whether an image may be used.
-#[derive(Drop)]
+#[derive(Clone, Copy)]
 pub enum Verdict {
     Fine,
     TooLong,
@@ -73,7 +73,7 @@ pub fn refusal_number(verdict: Verdict) -> u32
     }
 }
 
-#[derive(Drop)]
+#[derive(Clone, Copy)]
 pub struct ImageRead {
     pub survey: Survey,
     pub verdict: Verdict,

@@ -17,7 +17,7 @@ use wire::cursor::Cursor;
 use wire::number::read_number;
 
 // Nothing, so that the layers below are asked; that there is no such child; or its inode.
-#[derive(Drop)]
+#[derive(Clone, Copy)]
 pub enum Said {
     Nothing,
     NoChild,

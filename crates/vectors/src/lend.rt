@@ -7,7 +7,7 @@ use script::line::{bytes, decimal, word};
 use script::show;
 use wire::part::part;
 
-#[derive(Drop)]
+#[derive(Clone, Copy)]
 pub struct Listed {
     pub rows: [Entry; 16],
     pub answer: RowsAnswer,

@@ -13,7 +13,7 @@ use update::update::update_attr_delta;
 use wire::part::part;
 use wire::time::Time;
 
-#[derive(Drop)]
+#[derive(Clone, Copy)]
 enum Call {
     Insert,
     Tombstone,

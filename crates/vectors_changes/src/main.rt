@@ -9,6 +9,7 @@
 //     fold ROOM BYTES                                  pop ID ROOM BYTES
 //     note BYTES ROOM BYTES                            request REASON ROOM BYTES
 //     snapshot ROOM BYTES
+#![tactic(auto)]
 mod changes;
 
 use changes::answer;

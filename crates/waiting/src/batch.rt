@@ -7,7 +7,7 @@ use wire::cursor::{Cursor, place_at};
 use wire::number::read_number;
 
 // The queue: the place of its first batch, how many there are, and their bytes and operations in all.
-#[derive(Drop)]
+#[derive(Clone, Copy)]
 pub struct Queue {
     pub first: usize,
     pub count: u64,

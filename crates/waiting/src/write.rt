@@ -12,7 +12,7 @@ use writers::batch::{BatchHead, put_batch_head};
 use writers::tail::{Tail, put_tail};
 
 // What is new in an image; all else is copied from the old one.
-#[derive(Drop)]
+#[derive(Clone, Copy)]
 pub enum NewQueue {
     // what follows live
     Staged(Tail),
@@ -23,14 +23,14 @@ pub enum NewQueue {
 }
 
 // `count` batches, the first of which is at `rest`.
-#[derive(Drop)]
+#[derive(Clone, Copy)]
 pub struct Popped {
     pub count: u64,
     pub rest: usize,
 }
 
 // `count` batches, the first of which is at `first`; the last has this head, and the records of live. Then this tail.
-#[derive(Drop)]
+#[derive(Clone, Copy)]
 pub struct Frozen {
     pub first: usize,
     pub count: u64,

@@ -11,7 +11,7 @@ use wire::number::read_number;
 use writers::batch::read_batch_head;
 
 // A walk, and where the records of its topmost layer start, with their count, and end.
-#[derive(Drop)]
+#[derive(Clone, Copy)]
 pub struct Layers {
     pub walk: Walk,
     pub top: usize,

@@ -12,7 +12,7 @@ use wire::number::read_number;
 
 // A list by inode, at the first of the rows that are left: its inode, the place of what stands under it, and the place after that.
 // With no rows left, it says nothing.
-#[derive(Drop)]
+#[derive(Clone, Copy)]
 pub struct Run {
     pub inode: u64,
     pub place: usize,

@@ -7,14 +7,14 @@ use passes::inode::{Held, Place};
 use survey::batch::{InodeLayerStack, pushed};
 
 // The base, and `count` layers over it, the lowest first: of each run four numbers.
-#[derive(Drop)]
+#[derive(Clone, Copy)]
 pub struct Walk {
     pub runs: [u64; 72],
     pub count: usize,
 }
 
 // The least inode and its stack, whether the topmost layer has it, and where its base node ends; or that no inode is left.
-#[derive(Drop)]
+#[derive(Clone, Copy)]
 pub struct Step {
     pub more: bool,
     pub inode: u64,
@@ -24,7 +24,7 @@ pub struct Step {
 }
 
 // An inode, if there is one.
-#[derive(Drop)]
+#[derive(Clone, Copy)]
 pub struct First {
     pub found: bool,
     pub inode: u64,

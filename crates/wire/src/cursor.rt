@@ -3,14 +3,14 @@ ghost use Rattle.std.specs.Prelude.{◌≡◌};
 ghost use Rattle.wire.specs.Reading.{place_at};
 
 // Why a reader stops: the bytes end before the field is complete, or the field is badly formed.
-#[derive(Drop)]
+#[derive(Clone, Copy)]
 pub enum Fault {
     Ended,
     Malformed,
 }
 
 // A place in the image, or why there is none. Every reader hands a stop on.
-#[derive(Drop)]
+#[derive(Clone, Copy)]
 pub enum Cursor {
     At(usize),
     Stop(Fault),

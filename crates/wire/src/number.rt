@@ -10,7 +10,7 @@ use crate::put::put_byte;
 // The weight of the tenth byte, which has room for one bit.
 const TENTH: u64 = 0x8000_0000_0000_0000;
 
-#[derive(Drop)]
+#[derive(Clone, Copy)]
 pub struct NumberRead {
     pub value: u64,
     pub next: Cursor,

@@ -5,7 +5,7 @@ ghost use Rattle.wire.specs.Reading.{part as part_of};
 
 use crate::part::part;
 
-#[derive(Drop)]
+#[derive(Clone, Copy)]
 pub enum Ordering {
     Less,
     Equal,

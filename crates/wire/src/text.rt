@@ -9,7 +9,7 @@ use crate::number::{put_number, read_number};
 use crate::put::put_bytes;
 
 // A text is a part of the image.
-#[derive(Drop)]
+#[derive(Clone, Copy)]
 pub struct TextRead {
     pub start: usize,
     pub length: usize,

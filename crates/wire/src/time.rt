@@ -11,13 +11,13 @@ use crate::number::{put_number, read_number};
 
 const LAST_NANO: u64 = 999_999_999;
 
-#[derive(Drop)]
+#[derive(Clone, Copy)]
 pub struct Time {
     pub seconds: i64,
     pub nanos: u32,
 }
 
-#[derive(Drop)]
+#[derive(Clone, Copy)]
 pub struct TimeRead {
     pub time: Time,
     pub next: Cursor,

@@ -10,7 +10,7 @@ use wire::number::{no_number, put_number, read_number};
 use wire::time::{Time, put_time, read_time};
 
 // What stands before the records of a batch. The reason is a number from 1 to 5.
-#[derive(Drop)]
+#[derive(Clone, Copy)]
 pub struct BatchHead {
     pub id: u64,
     pub bytes: u32,
@@ -19,7 +19,7 @@ pub struct BatchHead {
     pub committed: Time,
 }
 
-#[derive(Drop)]
+#[derive(Clone, Copy)]
 pub struct BatchHeadRead {
     pub head: BatchHead,
     pub next: Cursor,

@@ -7,7 +7,7 @@ use wire::cursor::Cursor;
 use wire::number::{put_number, read_number};
 
 // The next id, the staged counts, and the request: 0, or a reason.
-#[derive(Drop)]
+#[derive(Clone, Copy)]
 pub struct Tail {
     pub next_id: u64,
     pub bytes: u32,
@@ -15,7 +15,7 @@ pub struct Tail {
     pub request: u64,
 }
 
-#[derive(Drop)]
+#[derive(Clone, Copy)]
 pub struct TailRead {
     pub tail: Tail,
     pub next: Cursor,

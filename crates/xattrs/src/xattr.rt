@@ -23,7 +23,7 @@ use wire::part::part;
 use wire::text::read_text;
 
 // What a record says of an attribute: that it is set or removed, or nothing.
-#[derive(Drop)]
+#[derive(Clone, Copy)]
 pub enum XattrChange {
     Set(Part),
     Removed,
