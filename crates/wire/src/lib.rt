@@ -1,6 +1,7 @@
 // The crate beneath the image: numbers, texts and times as bytes, each read and written, and the order of texts.
 // Every function answers for every slice and every position, also past the end, and has a full contract.
 #![tactic(auto)]
+
 pub mod cursor;
 pub mod number;
 pub mod order;

@@ -1,0 +1,36 @@
+use native.Mathlib.Omega.{arith}
+use Rattle.wire.proofs.Groups.{far-start, far-inside, far-last, far-more, far-group, far-sum, far-high, far-high-sum, far-weight, far-low, far-rest}
+use Rattle.wire.proofs.number.long_number.Goals as goal
+
+pub loop-i-init : goal.loop-i-init
+loop-i-init c = far-start c.requires.0
+
+pub bounds-s-i : goal.bounds-s-i
+bounds-s-i c = search far-inside
+
+pub overflow_mul-group : goal.overflow_mul-group
+overflow_mul-group c = search (far-group, arith)
+
+pub overflow_add-group : goal.overflow_add-group
+overflow_add-group c = search (far-sum, arith)
+
+pub returns-then-group-lt128 : goal.returns-then-group-lt128
+returns-then-group-lt128 c = search (far-last, arith)
+
+pub overflow_mul-sum : goal.overflow_mul-sum
+overflow_mul-sum c = search (far-high, arith)
+
+pub overflow_add-sum : goal.overflow_add-sum
+overflow_add-sum c = search (far-high-sum, arith)
+
+pub overflow_mul-weight : goal.overflow_mul-weight
+overflow_mul-weight c = search far-weight
+
+pub loop-i-preserved : goal.loop-i-preserved
+loop-i-preserved c = search (far-more, arith)
+
+pub tenth_group-requires : goal.tenth_group-requires
+tenth_group-requires c = search far-low
+
+pub returns : goal.returns
+returns c = search (far-rest, arith)

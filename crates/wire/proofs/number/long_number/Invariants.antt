@@ -1,0 +1,9 @@
+use Rattle.wire.proofs.Groups.{Far}
+use Prim.Native.Nat.{◌-◌}
+use Rattle.wire.proofs.number.long_number.Given as goal
+
+abbrev pub invariant-loop-i : goal.invariant-loop-i
+invariant-loop-i l = Far l.s l.at l.low l.most l.i l.weight l.sum
+
+abbrev pub decreases-loop-i : goal.decreases-loop-i
+decreases-loop-i l = l.end - l.i
