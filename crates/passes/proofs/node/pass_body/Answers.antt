@@ -1,0 +1,19 @@
+use Rattle.image.proofs.Passing.{ends-then}
+use Rattle.image.proofs.Constructs.{passes-nothing}
+use Rattle.passes.proofs.node.pass_body.Goals as goal
+
+pub returns-in-0 : goal.returns-in-0
+returns-in-0 c = rw c.in-0.is (ends-then _ _ (λ a b. (a, b)) c.pass_number-entries.ensures c.pass_names.ensures)
+
+pub returns-in-1 : goal.returns-in-1
+returns-in-1 c = rw c.in-1.is c.pass_number.ensures
+
+pub returns-in-2 : goal.returns-in-2
+returns-in-2 c = rw c.in-2.is c.pass_text.ensures
+
+pub returns-in-4 : goal.returns-in-4
+returns-in-4 c = rw c.in-4.is c.pass_number-in-4.ensures
+
+pub returns-in-5 : goal.returns-in-5
+returns-in-5 c = rw c.in-5.is c.pass_number-in-5.ensures
+

@@ -1,0 +1,12 @@
+use Rattle.image.proofs.Constructs.{passes-device}
+use Rattle.passes.proofs.record.pass_change.Goals as goal
+
+pub returns-in-0 : goal.returns-in-0
+returns-in-0 c = rw c.in-0.is c.pass_directory.ensures
+
+pub returns-in-1 : goal.returns-in-1
+returns-in-1 c = rw c.in-1.is c.pass_maybe_number.ensures
+
+pub returns-in-2 : goal.returns-in-2
+returns-in-2 c = rw c.in-2.is c.pass_maybe_text.ensures
+
