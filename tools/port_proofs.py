@@ -56,6 +56,8 @@ class Fn:
                         best = (nf, len(path)) if best is None or len(path) > best[1] else best
                 if best:
                     return [arm, best[0]] + fs[1+best[1]:]
+            if fs[1:2] == ["rest"]:
+                return [new, new + "-own"] + fs[1:]
             return [new] + fs[1:]
         # maybe the field belongs to an earlier place (flattened) - look up the chain
         kk = k

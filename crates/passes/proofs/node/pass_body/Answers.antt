@@ -1,3 +1,4 @@
+use borrow.Author.Rules.{rules}
 use Rattle.image.proofs.Passing.{ends-then}
 use Rattle.image.proofs.Constructs.{passes-nothing}
 use Rattle.passes.proofs.node.pass_body.Goals as goal
@@ -17,3 +18,6 @@ returns-in-4 c = rw c.in-4.is c.pass_number-in-4.ensures
 pub returns-in-5 : goal.returns-in-5
 returns-in-5 c = rw c.in-5.is c.pass_number-in-5.ensures
 
+
+pub returns-in_default : goal.returns-in_default
+returns-in_default c = passes-nothing _ (search rules) (search rules) (search rules) (search rules) (search rules) c.requires
