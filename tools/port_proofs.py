@@ -12,7 +12,7 @@ def chunks(text):
     """top-level chunks: list of (head lines) each chunk begins at a non-indented, non-blank line; comments attach to the next."""
     out, cur = [], []
     for line in text.split("\n"):
-        if line and not line[0].isspace() and cur:
+        if line and not line[0].isspace() and line[0] not in ")}]" and cur:
             out.append(cur); cur = []
         cur.append(line)
     if cur: out.append(cur)
@@ -116,6 +116,9 @@ def convert(path):
         if d.startswith("--"):
             pend.append(d); continue
         m = re.match(r"(?:abbrev\s+)?(?:pub\s+)?(?:abbrev\s+)?(\S+)\s", d)
+        if not m:
+            if not d.strip(): continue
+            pend.append("-- " + d); fn.problems.append("unread: " + d[:80]); continue
         name = m.group(1)
         if name in ("module", "record", "data", "open", "unfolding"):
             if name == "unfolding" and order:
