@@ -58,7 +58,7 @@ class Fn:
                         best = (nf, len(path)) if best is None or len(path) > best[1] else best
                 if best:
                     return [arm, best[0]] + fs[1+best[1]:]
-            if fs[1:2] == ["rest"] or new == "in_default" and fs[1:] and fs[1].startswith("keys"):
+            if fs[1:2] == ["rest"] or new.startswith("in_default") and fs[1:] and fs[1].startswith("keys"):
                 return [new, new + "-own"] + fs[1:]
             return [new] + fs[1:]
         # the field of another place on the way: today's borrow checker has fewer places

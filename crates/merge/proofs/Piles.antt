@@ -135,7 +135,9 @@ module _ {K : Type 0} (O : Order K) {C : Type 0} where
           choice : (d : Ordering) → pick_key O d u.0 b ≡ some k → total (pass_all O b ss) < total ss → total (pass_all O k ((u ∷ s) ∷ ss)) < total ((u ∷ s) ∷ ss)
           choice Less h f = here h
           choice Equal h f = here h
-          choice Greater h f = let z : b ≡ k = cc in rw (← z) (omega (arith, f, length-pass b (u ∷ s)))
+          choice Greater h f =
+              let z : b ≡ k = cc in
+              subst (λ (j : K). total (pass_all O j ((u ∷ s) ∷ ss)) < total ((u ∷ s) ∷ ss)) z (omega (arith, f, length-pass b (u ∷ s)))
 
   rising-pass : (k : K) (s : List (K × C)) → Rising O s → Rising O (pass O k s)
   unfolding pass
