@@ -1,0 +1,8 @@
+use Rattle.change.proofs.Cutting.{cut_list_lem}
+use Rattle.wire.specs.Orders.{by_bytes}
+use Rattle.image.specs.FieldLayout.{name as nameText}
+use Rattle.image.specs.Under.{under}
+use Rattle.directory.proofs.name.cut_names.Goals as goal
+
+pub returns : goal.returns
+returns c = cut_list_lem by_bytes nameText (under c.args.what) _ c.read_number-count.ensures (rw c.place_at.ensures at c.cut_named.ensures)
