@@ -23,16 +23,12 @@ module _ (least most : ℕ) (e : leb most edge ≡ true) where
   abbrev pub FitsText : List ℕ → Type 0
   FitsText t = (least ≤ length t) × (length t ≤ most) × Bytes t
 
-  abbrev framed : Codec (List ℕ)
+  abbrev pub framed : Codec (List ℕ)
   framed = tagged (only (leb least) (number_to most e)) length bytes (λ n l h. h.0)
 
   pub text-back : (t r : List ℕ) → FitsText t → text-read least most (text_bytes t ++ r) ≡ got t r
   unfolding text-read
   text-back t r h = framed.back t r ((h.1, le-leb least (length t) h.0), (refl, h.2))
-
-  pub text-forth : (s t r : List ℕ) → text-read least most s ≡ got t r → (s ≡ text_bytes t ++ r) × FitsText t
-  unfolding text-read
-  text-forth s t r h = let f = framed.forth s t r h in (f.0, (leb-true least (length t) f.1.0.1, f.1.0.0, f.1.1.1))
 
   pub text-steady : (s t : List ℕ) → Extends t (text-read least most s) (text-read least most (s ++ t))
   unfolding text-read
@@ -45,7 +41,6 @@ module _ (least most : ℕ) (e : leb most edge ≡ true) where
     write = text_bytes;
     Fits = FitsText;
     back = text-back;
-    forth = text-forth;
     steady = text-steady;
     plain = λ t h. plain-append (number_bytes (length t)) t (number-plain (length t)) h.2;
   }
