@@ -5,9 +5,9 @@ use Rattle.std.proofs.Math.Path.{sym, ap, subst}
 use Rattle.std.proofs.Common.{◌∙◌}
 use mathlib.Core.List.{List, [], ◌∷◌, ◌++◌, append_assoc}
 use Rattle.std.proofs.Math.Option.{Option, none, some}
-use Rattle.wire.specs.Parse.{Parsed, got, bind, never-got, bind_inv}
+use Rattle.wire.specs.Parse.{got, bind, never-got, bind_inv}
 use Rattle.wire.specs.Codec.{Codec, OneForm}
-use Rattle.wire.specs.Combinators.{◌then◌, only, tagged}
+use Rattle.wire.specs.Combinators.{only}
 use Rattle.wire.specs.Number.{edge, number_to}
 use Rattle.wire.specs.Order.{Order}
 use Rattle.wire.specs.Rows.{Under, Rising}

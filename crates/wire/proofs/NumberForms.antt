@@ -1,10 +1,9 @@
 -- Each number has one form, and so has each text and each time.
 -- Assumes nothing.
 use Rattle.std.specs.Prelude.{◌≡◌, refl, true, List, [], ◌∷◌, ◌++◌, ℕ, zero, suc, ◌+◌, ◌-◌, ◌*◌, ◌/◌, ◌%◌, ◌≤◌, ◌<◌, ltb, leb, length}
-use Rattle.std.proofs.Common.{ap, ⊎_elim, arith, le-leb, le-ltb, lt-ltb, ltb-true, leb-true, SFits}
-use Rattle.std.specs.Int.{w64}
-use Rattle.wire.specs.Parse.{Parsed, got, check, never-got, bind_inv, check_inv}
-use Rattle.wire.specs.Codec.{Codec, OneForm}
+use Rattle.std.proofs.Common.{ap, ⊎_elim, arith, le-leb, le-ltb, lt-ltb, ltb-true, leb-true}
+use Rattle.wire.specs.Parse.{got, check, never-got, bind_inv, check_inv}
+use Rattle.wire.specs.Codec.{OneForm}
 use Rattle.wire.specs.Combinators.{◌then◌, via, only, bytes}
 use Rattle.wire.specs.Number.{edge, number_bytes, scaled, groups-read, number_read, lt-or-ge, number_small, number-big, number_to, below, between, coded}
 use Rattle.wire.specs.Text.{text_bytes, text-read, FitsText, framed, text}

@@ -6,7 +6,7 @@ use Rattle.std.proofs.Math.Path.{refl, ap, subst}
 use Rattle.std.proofs.Common.{sym, ◌∙◌, arith, take-append-drop, length-take-le, leb-true, ltb-true}
 use mathlib.Core.List.{List, [], ◌∷◌, ◌++◌, append_assoc}
 use Rattle.std.proofs.Math.Option.{Option, none, some}
-use Rattle.wire.specs.Parse.{Parsed, fault, got, bind, check, never-got, bind_inv, check_inv}
+use Rattle.wire.specs.Parse.{Parsed, got, bind, check, never-got, bind_inv, check_inv}
 use Rattle.wire.specs.Codec.{Codec, OneForm, Bytes}
 use Rattle.wire.specs.Combinators.{nothing, all_bytes, bytes, bytes_read, seq, seq_read, ◌then◌, via, via_read, restated, only, only_read, tagged, tagged_read, count, opt-read, opt_write, opt_fits, optional}
 use Rattle.wire.specs.declared.cursor.Fault.TheVariants.{Ended, Malformed}

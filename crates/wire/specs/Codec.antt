@@ -1,7 +1,7 @@
 -- A format: how it is read, how it is written, what fits it, and the laws of the round trip.
 use Rattle.std.specs.Prelude.{ℕ, ◌<◌, ◌≡◌}
-use Rattle.std.proofs.Math.Path.{refl, ap}
-use Rattle.std.proofs.Common.{sym, ◌∙◌, subst}
+use Rattle.std.proofs.Math.Path.{refl}
+use Rattle.std.proofs.Common.{sym, ◌∙◌}
 use mathlib.Core.List.{List, [], ◌∷◌, ◌++◌, append-nil}
 use Rattle.wire.specs.Parse.{Parsed, fault, got, never-got, Extends}
 use Rattle.wire.specs.declared.cursor.Fault.TheVariants.{Ended, Malformed}

@@ -1,12 +1,12 @@
 -- Formats made of formats. Each carries the laws of the round trip.
 use Prim.Native.Nat.{ℕ, zero, suc, ◌≤◌}
 use Rattle.std.specs.Prelude.{◌≡◌, Bool, true, false, cond, leb, ltb, length, take, drop}
-use Rattle.std.proofs.Math.Path.{refl, ap, subst}
-use Rattle.std.proofs.Common.{sym, ◌∙◌, arith, length-append, take-append-drop, length-take-le, take_at, drop_at, leb-true, le-leb, lt-ltb, ltb-true}
+use Rattle.std.proofs.Math.Path.{refl}
+use Rattle.std.proofs.Common.{arith, length-append, take_at, drop_at, leb-true, le-leb, lt-ltb}
 use mathlib.Core.List.{List, [], ◌∷◌, ◌++◌, append_assoc}
 use Rattle.std.proofs.Math.Option.{Option, none, some}
 use Rattle.std.proofs.lemmas.List.{take-append-le, drop-append-le}
-use Rattle.wire.specs.Parse.{Parsed, fault, got, bind, check, never-got, bind_inv, check_inv, Extends, bind-extends, check-extends}
+use Rattle.wire.specs.Parse.{Parsed, fault, got, bind, check, Extends, bind-extends, check-extends}
 use Rattle.wire.specs.Codec.{Codec, Bytes, plain-append}
 use Rattle.wire.specs.declared.cursor.Fault.TheVariants.{Ended, Malformed}
 

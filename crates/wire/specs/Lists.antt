@@ -1,18 +1,16 @@
 -- Document 01: "Every list has its count first; rising means strictly, names by bytes, so nothing stands twice."
 -- "Counts below 2^32." A rising list is a map; each key is judged as soon as it is read, before what stands under it.
 use Rattle.std.specs.Prelude.{ℕ, zero, suc, ◌≤◌, ◌≡◌, refl, Bool, true, false, leb, length}
-use Rattle.std.proofs.Math.Path.{sym, ap, subst}
-use Rattle.std.proofs.Common.{◌∙◌, arith}
+use Rattle.std.proofs.Common.{arith}
 use mathlib.Core.List.{List, [], ◌∷◌, ◌++◌, append_assoc}
 use Rattle.std.proofs.Math.Option.{Option, none, some}
-use Rattle.wire.specs.Parse.{Parsed, fault, got, bind, never-got, bind_inv, Extends, bind-extends}
+use Rattle.wire.specs.Parse.{Parsed, fault, got, bind, Extends, bind-extends}
 use Rattle.wire.specs.Codec.{Codec, Bytes, plain-append}
 use Rattle.wire.specs.Combinators.{◌then◌, only, tagged}
 use Rattle.wire.specs.Number.{edge, number_to}
 use Rattle.wire.specs.Order.{Order}
 use Rattle.wire.specs.Rows.{Under, Rising}
-use Rattle.wire.specs.RowLaws.{under-below}
-use Rattle.wire.specs.Maps.{Map, as_map, as_map-rows, rows-as_map}
+use Rattle.wire.specs.Maps.{Map, as_map, as_map-rows}
 use Rattle.wire.specs.declared.cursor.Fault.TheVariants.{Malformed}
 use Rattle.wire.specs.declared.order.Ordering.{Ordering}
 use Rattle.wire.specs.declared.order.Ordering.TheVariants.{Less, Equal, Greater}

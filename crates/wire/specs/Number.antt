@@ -2,7 +2,7 @@
 -- Document 02, T-09: a number is judged when it is complete, and one whose tenth byte isn't its last is badly formed.
 use Rattle.std.specs.Prelude.{◌≡◌, refl, ◌⊎◌, Bool, true, false, cond, List, [], ◌∷◌, ◌++◌, ℕ, zero, suc, ◌+◌, ◌-◌, ◌*◌, ◌/◌, ◌%◌, ◌^◌, ◌≤◌, ◌<◌, ltb, leb, length}
 use Rattle.std.proofs.Common.{sym, ap, ◌∙◌, inl, inr, ⊎_elim, div-lt_iff_lt-mul, pow-suc, arith, lt-ltb, le-ltb, le-leb, ltb-true, ltb-false, leb-true}
-use Rattle.wire.specs.Parse.{Parsed, fault, got, bind, check, never-got, bind_inv, check_inv, Extends, bind-extends, check-extends}
+use Rattle.wire.specs.Parse.{Parsed, fault, got, bind, check, Extends, bind-extends, check-extends}
 use Rattle.wire.specs.Codec.{Codec, Bytes}
 use Rattle.wire.specs.Combinators.{via, restated, only}
 use Rattle.wire.specs.declared.cursor.Fault.TheVariants.{Ended, Malformed}

@@ -1,7 +1,7 @@
 -- Document 01: "A text is its length, then bytes; names 1 to 255, targets to 4,095, values to 4,096."
 -- Document 02, T-09: the length is a field of its own, judged before a byte of the text is looked at.
 use Rattle.std.specs.Prelude.{◌≡◌, refl, List, ◌++◌, true, ℕ, ◌≤◌, length, leb}
-use borrow.Author.Tests.{le-leb, leb-true}
+use borrow.Author.Tests.{le-leb}
 use Rattle.wire.specs.Parse.{Parsed, Extends, got, bind, check}
 use Rattle.wire.specs.Codec.{Codec, Bytes, plain-append}
 use Rattle.wire.specs.Combinators.{bytes, bytes_read, only, tagged}
