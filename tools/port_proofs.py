@@ -12,7 +12,7 @@ def chunks(text):
     """top-level chunks: list of (head lines) each chunk begins at a non-indented, non-blank line; comments attach to the next."""
     out, cur = [], []
     for line in text.split("\n"):
-        if line and not line[0].isspace() and cur:
+        if line and not line[0].isspace() and line[0] not in ")}]" and cur:
             out.append(cur); cur = []
         cur.append(line)
     if cur: out.append(cur)
@@ -36,16 +36,18 @@ class Fn:
         while fs and fs[0] == "before":
             parent = self.places[k][1]
             if parent is None:
-                self.problems.append(f"before past the start at {where}: {fields}"); return None
+                while fs and fs[0] == "before": fs.pop(0)
+                break
             k = self.idx[parent]
             fs.pop(0)
         if not fs:
             return ["@" + self.of["places_by_name"][k]]
         p = self.places[k]
         old, new = p[2]
-        if p[1] is None:  # Start
-            return fs
         f = fs[0]
+        if f in ("args", "requires", "ranges", "well_formed", "lifetimes"):
+            return fs
+        if f.endswith("_lem"): f = f[:-4]; fs[0] = f
         if alike(f) == alike(old) or (old.startswith("match") and f.startswith("match")):
             arms = self.of["arms"][k] if k < len(self.of["arms"]) else None
             if arms and len(fs) > 1:
@@ -56,11 +58,11 @@ class Fn:
                         best = (nf, len(path)) if best is None or len(path) > best[1] else best
                 if best:
                     return [arm, best[0]] + fs[1+best[1]:]
-            if fs[1:2] == ["rest"]:
+            if fs[1:2] == ["rest"] or new.startswith("in_default") and fs[1:] and fs[1].startswith("keys"):
                 return [new, new + "-own"] + fs[1:]
             return [new] + fs[1:]
-        # maybe the field belongs to an earlier place (flattened) - look up the chain
-        kk = k
+        # the field of another place on the way: today's borrow checker has fewer places
+        kk = self.idx[place]
         while kk is not None:
             q = self.places[kk]
             if q[1] is None: break
@@ -87,7 +89,11 @@ def turn_term(fn, term, place, where):
         if new and new[0].startswith("@"):
             fn.problems.append(f"whole place {new[0]} at {where}")
             return "c" + "".join("." + x for x in new[1:])
-        return "c" + "".join("." + x for x in new)
+        text = "c" + "".join("." + x for x in new)
+        # what the last arm of a match knows of the variants before it
+        if len(new) == 3 and new[1].endswith("-own") and new[2].startswith("keys"):
+            return f"(opened {text})"
+        return text
     return PATH.sub(sub, term)
 
 def convert(path):
@@ -116,6 +122,9 @@ def convert(path):
         if d.startswith("--"):
             pend.append(d); continue
         m = re.match(r"(?:abbrev\s+)?(?:pub\s+)?(?:abbrev\s+)?(\S+)\s", d)
+        if not m:
+            if not d.strip(): continue
+            pend.append("-- " + d); fn.problems.append("unread: " + d[:80]); continue
         name = m.group(1)
         if name in ("module", "record", "data", "open", "unfolding"):
             if name == "unfolding" and order:
@@ -184,7 +193,7 @@ def convert(path):
                 if near: sub[p] = sub[p].replace(base, near[0])
                 else: fn.problems.append(f"{a}: no variable {p} among {vars_}")
         tok = re.compile(r"(?<![\w.'₀-])(" + "|".join(sorted(map(re.escape, sub), key=len, reverse=True)) + r")(?![\w'₀-])") if sub else None
-        if tok: term = tok.sub(lambda m_: sub[m_.group(1)], term)
+        if tok: term = tok.sub(lambda m_: m_.group(0) if re.match(r"\s*[=:]\s", term[m_.end():]) else sub[m_.group(1)], term)
         kind = "invariant" if isinv else "decreases"
         inv_out.append("\n".join(notes + [f"abbrev pub {kind}-{loopname} : goal.{kind}-{loopname}", f"{kind}-{loopname} l = {term}"]))
     ans_out, helpers = [], []
@@ -235,6 +244,7 @@ def convert(path):
                     if all(re.search(r"(?<![\w'-])" + re.escape(w) + r"(?![\w'-])" if re.match(r"[\w]", w) else re.escape(w), used) for w in parts): keep.append(it)
                 if keep: mine.append(f"use {m.group(1)}.{{{', '.join(keep)}}}")
             else: mine.append(u)
+        if "(opened c." in used: mine.append("use borrow.Enum.Refused.{opened}")
         with open(os.path.join(folder, name), "w", encoding="utf-8") as f:
             f.write("\n".join(mine + [f"use Rattle.{crate}.proofs.{mod}.{kind} as goal"]) + "\n\n" + "\n\n".join(extra + outs) + "\n")
     write("Invariants.antt", "Given", inv_out)

@@ -1,6 +1,6 @@
 -- A pile of sources, one key at a time: the least key goes first, with what the changes of it make, and then the rest.
 -- Assumes nothing.
-use mathlib.Core.Path.{◌≡◌, refl, sym as inverse, ◌∙◌}
+use mathlib.Core.Path.{◌≡◌, subst, refl, sym as inverse, ◌∙◌}
 use mathlib.Core.Option.{Option, none, some}
 use mathlib.Core.List.{List, [], ◌∷◌}
 use Prim.Native.Nat.{ℕ, ◌≤◌, ◌<◌}
@@ -89,7 +89,7 @@ module _ {K : Type 0} (O : Order K) {C : Type 0} where
   least-from ((u ∷ s) ∷ ss) k h = go (least_key O ss) refl h (least-from ss)
     where
       here : FromAll u.0 ss → some u.0 ≡ some k → FromAll k ((u ∷ s) ∷ ss)
-      here f h = let z : u.0 ≡ k = cc in rw (← z) (same refl, f)
+      here f h = let z : u.0 ≡ k = cc in subst (λ (j : K). FromAll j ((u ∷ s) ∷ ss)) z (same refl, f)
 
       go : (o : Option K) → least_key O ss ≡ o → lower O (some u.0) o ≡ some k → ((j : K) → least_key O ss ≡ some j → FromAll j ss) → FromAll k ((u ∷ s) ∷ ss)
       go none e h ih = here (from-none ss e u.0) h
@@ -98,7 +98,7 @@ module _ {K : Type 0} (O : Order K) {C : Type 0} where
           choice : (d : Ordering) → O.cmp u.0 b ≡ d → pick_key O d u.0 b ≡ some k → FromAll b ss → FromAll k ((u ∷ s) ∷ ss)
           choice Less q h f = here (from_less u.0 b ss q f) h
           choice Equal q h f = here (rw (O.same u.0 b q) f) h
-          choice Greater q h f = let z : b ≡ k = cc in rw (← z) (less (O.flip u.0 b q), f)
+          choice Greater q h f = let z : b ≡ k = cc in subst (λ (j : K). FromAll j ((u ∷ s) ∷ ss)) z (less (O.flip u.0 b q), f)
 
   length-pass : (k : K) (s : List (K × C)) → length (pass O k s) ≤ length s
   unfolding pass
@@ -123,7 +123,9 @@ module _ {K : Type 0} (O : Order K) {C : Type 0} where
   pile-fewer ((u ∷ s) ∷ ss) k h = go (least_key O ss) refl h (pile-fewer ss)
     where
       here : some u.0 ≡ some k → total (pass_all O k ((u ∷ s) ∷ ss)) < total ((u ∷ s) ∷ ss)
-      here h = let z : u.0 ≡ k = cc in rw (← z, O.self u.0) (omega (arith, total-pass u.0 ss))
+      here h =
+          let z : u.0 ≡ k = cc in
+          subst (λ (j : K). total (pass_all O j ((u ∷ s) ∷ ss)) < total ((u ∷ s) ∷ ss)) z (rw (O.self u.0) (omega (arith, total-pass u.0 ss)))
 
       go : (o : Option K) → least_key O ss ≡ o → lower O (some u.0) o ≡ some k → ((j : K) → least_key O ss ≡ some j → total (pass_all O j ss) < total ss)
           → total (pass_all O k ((u ∷ s) ∷ ss)) < total ((u ∷ s) ∷ ss)
@@ -133,7 +135,9 @@ module _ {K : Type 0} (O : Order K) {C : Type 0} where
           choice : (d : Ordering) → pick_key O d u.0 b ≡ some k → total (pass_all O b ss) < total ss → total (pass_all O k ((u ∷ s) ∷ ss)) < total ((u ∷ s) ∷ ss)
           choice Less h f = here h
           choice Equal h f = here h
-          choice Greater h f = let z : b ≡ k = cc in rw (← z) (omega (arith, f, length-pass b (u ∷ s)))
+          choice Greater h f =
+              let z : b ≡ k = cc in
+              subst (λ (j : K). total (pass_all O j ((u ∷ s) ∷ ss)) < total ((u ∷ s) ∷ ss)) z (omega (arith, f, length-pass b (u ∷ s)))
 
   rising-pass : (k : K) (s : List (K × C)) → Rising O s → Rising O (pass O k s)
   unfolding pass

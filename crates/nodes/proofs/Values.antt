@@ -3,18 +3,17 @@
 use mathlib.Core.Path.{◌≡◌, refl, sym, ap, ◌∙◌}
 use mathlib.Core.List.{List}
 use mathlib.Core.Option.{Option, none, some}
-use Prim.Native.Nat.{ℕ, ◌+◌, ◌-◌, ◌/◌, ◌%◌, ◌≤◌}
+use Prim.Native.Nat.{ℕ, ◌/◌, ◌%◌, ◌≤◌}
 use native.Mathlib.Omega.{arith}
 use lib.ListN.{length, drop, length-append, length-drop}
 use Rattle.wire.specs.declared.cursor.Cursor.{Cursor}
 use Rattle.wire.specs.declared.cursor.Cursor.TheVariants.{At, Stop}
 use Rattle.wire.specs.Parse.{Parsed, got, bind, bind-bind, never-got}
-use Rattle.wire.specs.Codec.{Codec}
 use Rattle.wire.specs.Combinators.{opt-read}
-use Rattle.wire.specs.Number.{number_bytes, number_read, number-one}
+use Rattle.wire.specs.Number.{number_read, number-one}
 use Rattle.wire.specs.Orders.{by_bytes}
 use Rattle.wire.specs.Maps.{Map}
-use Rattle.wire.specs.Reading.{Reads, Answers, run, give, cursor_in}
+use Rattle.wire.specs.Reading.{Reads, Answers, cursor_in}
 use Rattle.wire.proofs.Readers.{read-then, read-end}
 use Rattle.image.specs.declared.name.Under.{Under}
 use Rattle.image.specs.declared.name.Under.TheVariants.{Change}
@@ -30,7 +29,7 @@ use Rattle.nodes.specs.declared.option.OptionPart.TheVariants as P
 use Rattle.nodes.specs.declared.attr.Words.{Words}
 use Rattle.nodes.specs.Options.{word_of}
 use Rattle.nodes.specs.Attrs.{ReadsChanges, later_read}
-use Rattle.nodes.specs.Listed.{list_at, Listed, IfAt, by_name, ReadsNames, between, part_from}
+use Rattle.nodes.specs.Listed.{list_at, IfAt, by_name, ReadsNames, between, part_from}
 
 -- a field that is there, or not
 module _ {A : Type 0} (p : List ℕ → Parsed A) {img : List ℕ} {bit : ℕ} where

@@ -1,5 +1,5 @@
 -- What the changes of attributes by value mean.
-use Rattle.std.specs.Prelude.{◌≡◌, List, ℕ}
+use Rattle.std.specs.Prelude.{List, ℕ}
 use Rattle.wire.specs.declared.cursor.Cursor.{Cursor}
 use Rattle.wire.specs.Parse.{Parsed, got, bind}
 use Rattle.wire.specs.Combinators.{opt-read}

@@ -1,15 +1,16 @@
 -- A placed stack shows the names that its stack shows: with the starts forgotten, the entries and the attributes are those of Reads.
 use mathlib.Core.Path.{◌≡◌, refl, ◌∙◌, ap}
 use mathlib.Core.Option.{Option, none, some}
-use mathlib.Core.List.{List, [], ◌∷◌, map}
-use Prim.Native.Nat.{ℕ}
+use mathlib.Core.List.{List, [], ◌∷◌, ◌++◌, map}
+use Prim.Native.Nat.{ℕ, ◌+◌}
+use lib.ListN.{length}
 use Rattle.wire.specs.Codec.{Codec}
 use Rattle.wire.specs.Orders.{by_bytes}
 use Rattle.wire.specs.Maps.{Map, meet, merge, get, map-ext}
 use Rattle.wire.specs.Rows.{lookup}
 use Rattle.image.specs.Meaning.{Text, Entries, Body, Meta, Node, Changes, Fields, Names, Change, Record, directory, file, symlink, special, tombstone, delta}
 use Rattle.image.specs.Masks.{maybe}
-use Rattle.image.specs.FieldLayout.{inode, value}
+use Rattle.image.specs.FieldLayout.{name, inode, value}
 use Rattle.rules.specs.Fold.{add_all, remove_all, alter_all}
 use Rattle.rules.specs.Reads.{look, entries, body_entries, change_entries, step_entries, values, step_values}
 use Rattle.rules.specs.Changes.{map_if}
@@ -28,7 +29,7 @@ module _ {A : Type 0} (value : Codec A) where
   rows-forgotten : (q : ℕ) (l : List (Text × A)) → map (map_row by_bytes (λ (x : ℕ × A). x.1)) (start_rows value q l) ≡ l
   unfolding start_rows
   rows-forgotten q [] = refl
-  rows-forgotten q (e ∷ l) = ap (λ (t : List (Text × A)). e ∷ t) (rows-forgotten _ l)
+  rows-forgotten q (e ∷ l) = ap (λ (t : List (Text × A)). e ∷ t) (rows-forgotten (q + length (name.write e.0 ++ value.write e.1)) l)
 
   pub starts-forgotten : (p : ℕ) (m : Map by_bytes A) → forgotten (starts value p m) ≡ m
   unfolding get starts map_values

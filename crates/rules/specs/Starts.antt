@@ -36,12 +36,14 @@ module _ {A : Type 0} (value : Codec A) where
   pub starts-under : (k : Text) (q : ℕ) (l : List (Text × A)) → Under by_bytes k l → Under by_bytes k (start_rows q l)
   unfolding start_rows
   starts-under k q [] u = tt
-  starts-under k q (e ∷ l) u = (u.0, starts-under k _ l u.1)
+  starts-under k q (e ∷ l) u = (u.0, starts-under k (q + length (name.write e.0 ++ value.write e.1)) l u.1)
 
   pub starts-rise : (q : ℕ) (l : List (Text × A)) → Rising by_bytes l → Rising by_bytes (start_rows q l)
   unfolding start_rows
   starts-rise q [] r = tt
-  starts-rise q (e ∷ l) r = (starts-under e.0 _ l r.0, starts-rise _ l r.1)
+  starts-rise q (e ∷ l) r =
+      let next = q + length (name.write e.0 ++ value.write e.1) in
+      (starts-under e.0 next l r.0, starts-rise next l r.1)
 
   -- a list at p, its count first
   unfoldable pub starts : ℕ → Map by_bytes A → Started A

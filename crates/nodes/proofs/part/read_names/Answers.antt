@@ -1,0 +1,5 @@
+use Rattle.nodes.proofs.Values.{reads-names}
+use Rattle.nodes.proofs.part.read_names.Goals as goal
+
+pub returns : goal.returns
+returns c = reads-names _ c.pass_names-next.ensures c.part_between.ensures
