@@ -1,0 +1,14 @@
+use Prim.Native.Nat.{◌-◌}
+use native.Mathlib.Omega.{arith}
+use lib.ListN.{length-replicate}
+use Rattle.walk.proofs.Opening.{opening-start, opening-more, opening-all}
+use Rattle.walk.proofs.open.open_layers.Goals as goal
+
+pub loop-i-init : goal.loop-i-init
+loop-i-init c = opening-start c.run_at.ensures _ (simp length-replicate) c.set_run.ensures
+
+pub loop-i-preserved : goal.loop-i-preserved
+loop-i-preserved c = opening-more c.loop-i.invariant (omega arith) c.requires c.records_of-top.ensures c.run_at-in-loop-i.ensures c.records_end-end.ensures c.set_run-in-loop-i.ensures
+
+pub returns : goal.returns
+returns c = search (opening-all, arith)
