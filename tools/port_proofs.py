@@ -46,6 +46,7 @@ class Fn:
         old, new = p[2]
         f = fs[0]
         if f in ("args", "requires", "ranges", "well_formed", "lifetimes"):
+            if f == "args" and len(fs) > 1: fs[1] = fs[1].replace("-", "_")
             return fs
         if f.endswith("_lem"): f = f[:-4]; fs[0] = f
         if alike(f) == alike(old) or (old.startswith("match") and f.startswith("match")):
@@ -80,7 +81,31 @@ class Fn:
 
 PATH = re.compile(r"(?<![\w.'-])c((?:\." + W + r")+)")
 
+LET = re.compile(r"\blet (" + W + r") = ((?:" + W + r")(?:\." + W + r")+) in\s*")
+
+def spread(term):
+    """A let that binds a path from c is written out: today's paths are short."""
+    names = {}
+    at = 0
+    while True:
+        m = LET.search(term, at)
+        if not m: break
+        root, _, rest = m.group(2).partition(".")
+        if root in names: path = names[root] + "." + rest
+        elif root == "c": path = m.group(2)
+        else:
+            at = m.end(); continue
+        names[m.group(1)] = path
+        term = term[:m.start()] + term[m.end():]
+        name = re.compile(r"(?<![\w.'«-])" + re.escape(m.group(1)) + r"(?![\w'-])")
+        def put(k):
+            after = term[k.end():]
+            return k.group(0) if re.match(r"\s*[=:]\s", after) else path
+        term = term[:m.start()] + name.sub(lambda k: path, term[m.start():])
+    return term
+
 def turn_term(fn, term, place, where):
+    term = spread(term)
     def sub(m):
         fields = m.group(1)[1:].split(".")
         new = fn.turn(place, fields, where)

@@ -100,7 +100,7 @@ module _ (img : List ℕ) (s : InodeLayerStack) (name : Text) where
 
 -- ---- the walk from the top
 
-module _ {img : List ℕ} {s : InodeLayerStack} {name : Text} {left : ℕ} (w : Walked (attribute name) img s left) (h : 0 < left) where
+module _ {img : List ℕ} {s : InodeLayerStack} (name : Text) {left : ℕ} (w : Walked (attribute name) img s left) (h : 0 < left) where
   pub walk-set : (p : Part) → XattrAt img s name (left - 1) (X.Set p) → some (text_at img p) ≡ shown (attribute name) img s
   walk-set p e = sym (walk_top (attribute name) w h ∙ e)
 

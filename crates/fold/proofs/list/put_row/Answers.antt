@@ -1,0 +1,7 @@
+use Rattle.fold.proofs.list.put_row.Goals as goal
+
+pub returns-in-Entries : goal.returns-in-Entries
+returns-in-Entries c = rw c.in-Entries.is c.put_entry.ensures
+
+pub returns-in-Attributes : goal.returns-in-Attributes
+returns-in-Attributes c = rw c.in-Attributes.is c.put_attribute.ensures

@@ -1,0 +1,4 @@
+use Rattle.overlay.proofs.write.replaced.Goals as goal
+
+pub returns : goal.returns
+returns c = rw c.count_after.ensures

@@ -1,0 +1,14 @@
+use Rattle.xattrs.proofs.Xattrs.{base-none, attributes-listed, base-named, base-unnamed}
+use Rattle.xattrs.proofs.xattr.base_xattr.Goals as goal
+
+pub returns-in_default : goal.returns-in_default
+returns-in_default c = base-none c.args.img.now c.args.stack c.args.name.now (rw c.in_default.is at c.base_node-base.ensures)
+
+pub find_name-place-requires : goal.find_name-place-requires
+find_name-place-requires c = attributes-listed c.args.img.now c.args.stack c.args.name.now _ (rw c.in-Some.is at c.base_node-base.ensures)
+
+pub returns-in-At : goal.returns-in-At
+returns-in-At c = base-named c.args.img.now c.args.stack c.args.name.now _ (rw c.in-Some.is at c.base_node-base.ensures) c.find_name-place.ensures c.in-At.is c.read_text-text.ensures
+
+pub returns-in-Nowhere : goal.returns-in-Nowhere
+returns-in-Nowhere c = base-unnamed c.args.img.now c.args.stack c.args.name.now _ (rw c.in-Some.is at c.base_node-base.ensures) c.find_name-place.ensures c.in-Nowhere.is
