@@ -22,6 +22,7 @@ use Rattle.image.specs.NodeLayout.{meta_parts, meta, body_part, body_part_of, no
 use Rattle.rules.specs.Queue.{is_directory}
 use Rattle.base.specs.Nodes.{StaysAt}
 use Rattle.base.proofs.Sifting.{sift-by}
+use Rattle.image.proofs.OneForm.{node-one}
 
 -- the bytes from a cursor on
 abbrev Stands : List ℕ → Cursor → List ℕ → Type 0
@@ -64,7 +65,7 @@ module _ {img : List ℕ} {p k w n : ℕ} {c1 c2 c3 : Cursor} (r1 : Answers img 
   numbers-are : (m : M.Node) (t : List ℕ) → node.read (drop p img) ≡ got m t → (k ≡ kind_number (kind_of m.body)) × (n ≡ m.meta.links)
   unfolding node
   numbers-are m t e =
-      let f = node.forth (drop p img) m t e in
+      let f = node-one.forth (drop p img) m t e in
       let links = number_bytes m.meta.links ++ after_links m t in
       let s1 = number-stands (At p) c1 refl (kind_number (kind_of m.body)) (number_bytes m.meta.perm ++ links) (kind-small (kind_of m.body)) (f.0 ∙ node-starts m t) r1 in
       let s2 = number-stands c1 c2 refl m.meta.perm links (omega (arith, f.1.meta.perm)) s1.1 r2 in

@@ -47,6 +47,7 @@ use Rattle.walk.specs.declared.walk.Walk.{Walk}
 use Rattle.walk.specs.declared.walk.Step.{Step}
 use Rattle.base.specs.Nodes.{kept_if, Like, Keeps, Stays, StaysAt, count_if, nodes_of, row_bytes, nodes_bytes, PutsRow, PutsNodes, Few}
 use Rattle.base.specs.declared.node.Nodes.{Nodes}
+use Rattle.image.proofs.OneForm.{node-one}
 
 -- ---- a node
 
@@ -127,7 +128,7 @@ module _ (img : List ℕ) (p e : ℕ) (h : NodeEnds img (some p) e) where
   base-bytes : between img p e ≡ node.write h.0
   base-bytes =
       let w = node.write h.0 in
-      let b : drop p img ≡ w ++ drop e img = (node.forth (drop p img) h.0 (drop e img) h.1).0 in
+      let b : drop p img ≡ w ++ drop e img = (node-one.forth (drop p img) h.0 (drop e img) h.1).0 in
       let l : length img - p ≡ length w + (length img - e) = rw (← length-drop, ← length-drop, ← length-append) (ap length b) in
       rw b
       (⊎_elim

@@ -18,7 +18,8 @@ use Rattle.image.specs.StoreLayout.{batches, store}
 use Rattle.image.specs.Fits.{FitsStore}
 use Rattle.image.specs.Places.{Ends}
 use Rattle.survey.specs.Survey.{Surveys}
-use Rattle.image.specs.RoundTrip.{read_image, write_image, read-then-write, read_fits}
+use Rattle.image.specs.RoundTrip.{read_image, write_image}
+use Rattle.image.proofs.RoundTrip.{read-then-write, read_fits}
 use Rattle.survey.specs.declared.store.Survey.{Survey}
 use Rattle.survey.specs.declared.store.ImageRead.{ImageRead}
 use Rattle.survey.specs.declared.store.Verdict.TheVariants as D

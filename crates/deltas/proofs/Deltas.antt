@@ -33,6 +33,7 @@ use Rattle.deltas.specs.declared.delta.EntryDelta.TheVariants as E
 use Rattle.deltas.specs.declared.delta.NodeDelta.TheVariants.{Directory, Socket}
 use Rattle.nodes.proofs.Values.{reads_made, reads-pair, reads_first, reads_same, nowhere}
 use Rattle.nodes.proofs.Reading.{reads-length, reads_byte}
+use Rattle.image.proofs.OneForm.{fields-one}
 
 -- the removed names come right after the added entries
 module _ {img : List ℕ} (d : DirectoryDelta) where
@@ -91,7 +92,7 @@ changes-end m at start (Stop f) (At q) h g d p e = never-got d.reads.same
 changes-end m at (Stop f) (At i) (At q) h g d p e = never-got g.reads.same
 changes-end {img} m {a} at (At s) (At i) (At q) h g d p e =
     let b : s ≡ p + 1 = reads_byte (omega arith) (rw e at h.reads) in
-    let z : i ≡ p + 1 + length (fields.write (fields_meant img a)) = omega (arith, reads-length fields h.reads.within g.reads) in
+    let z : i ≡ p + 1 + length (fields.write (fields_meant img a)) = omega (arith, reads-length fields fields-one h.reads.within g.reads) in
     rw d.attr (rw z at g.listed)
 
 module _ {img : List ℕ} {n : ℕ} {at start : Cursor} (h : Answers img (number_read 7) at 0 n start) where

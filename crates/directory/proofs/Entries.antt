@@ -43,6 +43,7 @@ use Rattle.overlay.specs.declared.list.NewRow.TheVariants as R
 use Rattle.overlay.specs.declared.list.NewList.TheVariants as L
 use Rattle.change.proofs.Cutting.{get-here, count-more}
 use Rattle.change.proofs.Splicing.{piece_at, splices-bytes, piece-last, piece-more, cut_again}
+use Rattle.image.proofs.OneForm.{name-one, under-one, listed-one}
 
 -- ---- "3 if a name isn't 1 to 255 bytes"
 
@@ -199,7 +200,7 @@ some-changed {u} {img} {k} {cut} {new} {p} {e} c d = record {
   writes = λ short end h given newName x o stands.
       let m = list_at img u p in
       let rest = drop end img in
-      let f = (listed by_bytes name (under u)).forth (drop p.start img) m rest h.is in
+      let f = (listed-one by_bytes name (under u) name-one (under-one u)).forth (drop p.start img) m rest h.is in
       let n = length-append ((by_name u).write m) rest in
       let z : e ≡ end = omega (arith, h.ends, h.inside) in
       let s : Spans img p.start ((by_name u).write m) end = record {

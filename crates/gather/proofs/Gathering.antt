@@ -54,6 +54,7 @@ use Rattle.gather.proofs.Shorts.{every_append, delta-short, base_short}
 use Rattle.gather.specs.Gathers.{Short, body_pile, node_pile, change_pile, alter_pile, delta_pile, pile_of, Gathers}
 use Rattle.attrs.specs.Meant.{kind_meant}
 use Rattle.stack.proofs.Walks.{records-more}
+use Rattle.nodes.proofs.OneForm.{by_name-one}
 
 -- ---- what the lists of a record and of a node mean
 
@@ -64,7 +65,7 @@ same_place img x y w t h d e =
 
 module _ (img : List ℕ) (u : Under) {p : Part} {end : ℕ} (l : Listed img u p end) where
   list-bytes : drop p.start img ≡ (by_name u).write (list_at img u p) ++ drop end img
-  list-bytes = ((by_name u).forth (drop p.start img) (list_at img u p) (drop end img) l.is).0
+  list-bytes = ((by_name-one u).forth (drop p.start img) (list_at img u p) (drop end img) l.is).0
 
   list-long : 1 ≤ length ((by_name u).write (list_at img u p))
   list-long = simp length-append (omega (arith, number-one (length (list_at img u p).rows)))

@@ -8,7 +8,7 @@ use native.Mathlib.Omega.{arith}
 use lib.ListN.{length, drop}
 use Rattle.wire.specs.Parse.{Parsed, fault, got}
 use Rattle.wire.specs.Combinators.{◌then◌}
-use Rattle.wire.specs.Number.{number_bytes, number_read, number-forth}
+use Rattle.wire.specs.Number.{number_bytes, number_read}
 use Rattle.wire.specs.Lists.{Every, last_count}
 use Rattle.image.specs.Meaning.{Text, changed_kind}
 use Rattle.image.specs.FieldLayout.{name}
@@ -32,6 +32,7 @@ use Rattle.gather.specs.Lists.{change_lists, alter_lists, delta_lists, entry_lis
 use Rattle.gather.specs.Gathers.{Short}
 use Rattle.gather.specs.declared.gather.Lists.{Lists}
 use Rattle.gather.specs.declared.gather.Lists.TheVariants as L
+use Rattle.wire.proofs.NumberForms.{number-forth}
 
 pub every_append : {A : Type 0} (P : A → Type 0) (xs ys : List A) → Every P xs → Every P ys → Every P (xs ++ ys)
 every_append P [] ys h k = k

@@ -16,7 +16,8 @@ use Rattle.image.specs.Fits.{FitsStore}
 use Rattle.image.specs.KindLayout.{kind}
 use Rattle.image.specs.NodeLayout.{meta, node}
 use Rattle.image.specs.StoreLayout.{batches, store}
-use Rattle.image.specs.RoundTrip.{read_image, write_image, one-image, cut-image}
+use Rattle.image.specs.RoundTrip.{read_image, write_image}
+use Rattle.image.proofs.RoundTrip.{one-image, cut-image}
 
 -- a base, and nothing above it
 abbrev alone : Base → Store

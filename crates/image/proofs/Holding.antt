@@ -12,13 +12,14 @@ use Rattle.wire.specs.declared.order.Ordering.TheVariants.{Less, Equal, Greater}
 use Rattle.wire.specs.declared.cursor.Cursor.TheVariants.{At}
 use Rattle.wire.specs.declared.cursor.Fault.TheVariants.{Malformed}
 use Rattle.wire.specs.Parse.{Parsed, got, bind, check, never-got, bind_inv, check_inv}
-use Rattle.wire.specs.Codec.{Codec}
+use Rattle.wire.specs.Codec.{Codec, OneForm}
 use Rattle.wire.specs.Combinators.{only}
 use Rattle.wire.specs.Order.{Order}
 use Rattle.wire.specs.Rows.{choose, lookup}
 use Rattle.wire.specs.Maps.{Map, get, as_map, rows-as_map}
 use Rattle.wire.specs.Number.{number_read, number_to}
 use Rattle.wire.specs.Lists.{after, row, rows, rising, rising-read, mapped, last_count}
+use Rattle.wire.proofs.NumberForms.{number_to-one}
 use Rattle.image.specs.Places.{if_read, rows_from, place_under, place_in, Holds}
 
 -- the end of an image
@@ -41,8 +42,8 @@ suffix-on {img} w t h =
     }
 
 -- what a codec leaves
-pub suffix-rest : {A : Type 0} (c : Codec A) {img s r : List ℕ} {a : A} → Suffix img s → c.read s ≡ got a r → Suffix img r
-suffix-rest c {img} {s} {r} {a} h e = suffix-on (c.write a) r (rw (c.forth s a r e).0 at h)
+pub suffix-rest : {A : Type 0} (c : Codec A) → OneForm c → {img s r : List ℕ} {a : A} → Suffix img s → c.read s ≡ got a r → Suffix img r
+suffix-rest c one {img} {s} {r} {a} h e = suffix-on (c.write a) r (rw (one.forth s a r e).0 at h)
 
 module _ {K A : Type 0} (O : Order K) (key : Codec K) (value : Codec A) (img : List ℕ) (k : K) where
   abbrev pair : K → A → K × A
@@ -79,15 +80,6 @@ module _ {K A : Type 0} (O : Order K) (key : Codec K) (value : Codec A) (img : L
         valued = j.2 ∙ (λ x. got (eb x) (eq x));
       }
 
-  row-holds : (n : ℕ) (s : List ℕ) (e : K × A) (t : List ℕ) (l : List (K × A)) → Suffix img s → Row s e t
-      → (Suffix img t → Holds img value.read (place_under O key value (length img) k n t) (lookup O k l))
-      → Holds img value.read (place_under O key value (length img) k (suc n) s) (lookup O k (e ∷ l))
-  unfolding place_under lookup
-  row-holds n s e t l w a ih =
-      let u = suffix-rest key w a.keyed in
-      let p = if_read (value.read a.mid) (λ v q. place_under O key value (length img) k n q) in
-      rw a.keyed (here (O.cmp k e.0) p (lookup O k l) u a.valued (rw a.valued (ih (suffix-rest value u a.valued))))
-
   mapped-is : (o : Option (Map O A)) (q : List ℕ) {m : Map O A} {r : List ℕ} → mapped O key value last_count refl o q ≡ got m r → o ≡ some m
   mapped-is none q e = never-got e
   mapped-is (some x) q e = cc
@@ -97,29 +89,39 @@ module _ {K A : Type 0} (O : Order K) (key : Codec K) (value : Codec A) (img : L
   none-holds s [] e = tt
   none-holds s (x ∷ l) e = absurd (let z : ◌≡◌ {A = ℕ} 0 1 = cc in omega arith)
 
-  -- the place of a key among rows holds what the rows have under it
-  pub rows-hold : (n : ℕ) (prev : Option K) (s : List ℕ) {l : List (K × A)} {r : List ℕ} → Suffix img s → rows_from O key value n prev s ≡ got l r
-      → Holds img value.read (place_under O key value (length img) k n s) (lookup O k l)
-  rows-hold zero prev s {l} w d = none-holds s l cc
-  rows-hold (suc n) prev s {l} {r} w d =
-      let i = bind_inv ((row O key value prev).read s) (λ a t. bind (rows_from O key value n (some a.0) t) (λ m q. got (a ∷ m) q)) d in
-      let j = bind_inv (rows_from O key value n (some i.0.0) i.1) (λ m q. got (i.0 ∷ m) q) i.3 in
-      let e1 : got (i.0 ∷ j.0) j.1 ≡ got l r = j.3 in
-      let el : i.0 ∷ j.0 ≡ l = cc in
-      subst (λ (m : List (K × A)). Holds img value.read (place_under O key value (length img) k (suc n) s) (lookup O k m)) el
-      (row-holds n s i.0 i.1 j.0 w (apart prev s i.2) (λ u. rows-hold n (some i.0.0) i.1 u j.2))
+  module _ (one_key : OneForm key) (one_value : OneForm value) where
+    row-holds : (n : ℕ) (s : List ℕ) (e : K × A) (t : List ℕ) (l : List (K × A)) → Suffix img s → Row s e t
+        → (Suffix img t → Holds img value.read (place_under O key value (length img) k n t) (lookup O k l))
+        → Holds img value.read (place_under O key value (length img) k (suc n) s) (lookup O k (e ∷ l))
+    unfolding place_under lookup
+    row-holds n s e t l w a ih =
+        let u = suffix-rest key one_key w a.keyed in
+        let p = if_read (value.read a.mid) (λ v q. place_under O key value (length img) k n q) in
+        rw a.keyed (here (O.cmp k e.0) p (lookup O k l) u a.valued (rw a.valued (ih (suffix-rest value one_value u a.valued))))
 
-  -- the place of a key in a whole list holds what its map has under it
-  pub list-holds : (n : ℕ) {m : Map O A} {r : List ℕ} → n ≤ length img → (rising O key value last_count refl).read (drop n img) ≡ got m r
-      → Holds img value.read (place_in O key value img k (At n)) (get O k m)
-  unfolding rising-read get
-  list-holds n {m} {r} h d =
-      let i = bind_inv ((rows O key value last_count refl).read (drop n img)) (λ l t. mapped O key value last_count refl (as_map O l) t) d in
-      let j = bind_inv (number_read last_count (drop n img)) (λ c t. rows_from O key value c none t) i.2 in
-      let e : m.rows ≡ i.0 = rows-as_map O i.0 m (mapped-is (as_map O i.0) i.1 i.3) in
-      let u = suffix-rest (number_to last_count refl) (suffix-drop img n h) j.2 in
-      let p : place_in O key value img k (At n) ≡ place_under O key value (length img) k j.0 j.1 =
-      ap (λ (o : Parsed ℕ). if_read o (λ c t. place_under O key value (length img) k c t)) j.2 in
-      let h = rows-hold j.0 none j.1 u j.3 in
-      subst (λ (o : Option ℕ). Holds img value.read o (lookup O k m.rows)) (sym p)
-      (subst (λ (l : List (K × A)). Holds img value.read (place_under O key value (length img) k j.0 j.1) (lookup O k l)) (sym e) h)
+    -- the place of a key among rows holds what the rows have under it
+    pub rows-hold : (n : ℕ) (prev : Option K) (s : List ℕ) {l : List (K × A)} {r : List ℕ} → Suffix img s → rows_from O key value n prev s ≡ got l r
+        → Holds img value.read (place_under O key value (length img) k n s) (lookup O k l)
+    rows-hold zero prev s {l} w d = none-holds s l cc
+    rows-hold (suc n) prev s {l} {r} w d =
+        let i = bind_inv ((row O key value prev).read s) (λ a t. bind (rows_from O key value n (some a.0) t) (λ m q. got (a ∷ m) q)) d in
+        let j = bind_inv (rows_from O key value n (some i.0.0) i.1) (λ m q. got (i.0 ∷ m) q) i.3 in
+        let e1 : got (i.0 ∷ j.0) j.1 ≡ got l r = j.3 in
+        let el : i.0 ∷ j.0 ≡ l = cc in
+        subst (λ (m : List (K × A)). Holds img value.read (place_under O key value (length img) k (suc n) s) (lookup O k m)) el
+        (row-holds n s i.0 i.1 j.0 w (apart prev s i.2) (λ u. rows-hold n (some i.0.0) i.1 u j.2))
+
+    -- the place of a key in a whole list holds what its map has under it
+    pub list-holds : (n : ℕ) {m : Map O A} {r : List ℕ} → n ≤ length img → (rising O key value last_count refl).read (drop n img) ≡ got m r
+        → Holds img value.read (place_in O key value img k (At n)) (get O k m)
+    unfolding rising-read get
+    list-holds n {m} {r} h d =
+        let i = bind_inv ((rows O key value last_count refl).read (drop n img)) (λ l t. mapped O key value last_count refl (as_map O l) t) d in
+        let j = bind_inv (number_read last_count (drop n img)) (λ c t. rows_from O key value c none t) i.2 in
+        let e : m.rows ≡ i.0 = rows-as_map O i.0 m (mapped-is (as_map O i.0) i.1 i.3) in
+        let u = suffix-rest (number_to last_count refl) (number_to-one last_count refl) (suffix-drop img n h) j.2 in
+        let p : place_in O key value img k (At n) ≡ place_under O key value (length img) k j.0 j.1 =
+        ap (λ (o : Parsed ℕ). if_read o (λ c t. place_under O key value (length img) k c t)) j.2 in
+        let h = rows-hold j.0 none j.1 u j.3 in
+        subst (λ (o : Option ℕ). Holds img value.read o (lookup O k m.rows)) (sym p)
+        (subst (λ (l : List (K × A)). Holds img value.read (place_under O key value (length img) k j.0 j.1) (lookup O k l)) (sym e) h)

@@ -1,4 +1,6 @@
 mod Examples
+pub mod OneForm
+pub mod RoundTrip
 pub mod Passing
 pub mod Names
 pub mod Holding

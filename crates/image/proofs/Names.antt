@@ -21,6 +21,8 @@ use Rattle.wire.specs.Text.{text-read}
 use Rattle.wire.specs.Orders.{by_bytes}
 use Rattle.wire.specs.Lists.{after, is_less}
 use Rattle.wire.specs.Reading.{AnswersPart, part, run, give, no_text}
+use Rattle.wire.proofs.OneForm.{only-one}
+use Rattle.image.proofs.OneForm.{name-one}
 use Rattle.image.proofs.Passing.{only_kept, only-stopped, only-refused, stops-free}
 use Rattle.image.specs.FieldLayout.{name}
 use Rattle.image.specs.Places.{passed, Ends, name_before}
@@ -34,7 +36,7 @@ module _ {img : List ℕ} {at next : Cursor} {s n : ℕ} (h : AnswersPart img (t
   name-some {q} e = go at (rw e at h.reads.same)
     where
       go : (c : Cursor) → run img (text-read 1 255) c ≡ got (part img s n) (drop q img) → 1 ≤ n
-      go (At i) d = omega (arith, (name.forth (drop i img) (part img s n) (drop q img) d).1.0, part_length img s n h.inside)
+      go (At i) d = omega (arith, (name-one.forth (drop i img) (part img s n) (drop q img) d).1.0, part_length img s n h.inside)
       go (Stop f) d = never-got d
 
   abbrev following : ℕ → ℕ → Bool
@@ -88,6 +90,6 @@ name-passed {A} {img} {here} {s} {n} {q} {mid} prev value h g = go mid h.reads.s
     go : (m : Cursor) → (only (after by_bytes prev) name).read (drop here img) ≡ give img (part img s n) m → passed (run img value m) ≡ got tt (drop q img)
         → name_before img s n ≡ some (part img s n)
     go (At m) e d =
-        let f = ((only (after by_bytes prev) name).forth (drop here img) (part img s n) (drop m img) e).1 in
+        let f = ((only-one (after by_bytes prev) name name-one).forth (drop here img) (part img s n) (drop m img) e).1 in
         before n (omega (arith, f.0.0, part_length img s n h.inside))
     go (Stop y) e d = never-got d

@@ -13,13 +13,14 @@ use Rattle.wire.specs.declared.cursor.Fault.TheVariants.{Malformed}
 use Rattle.wire.specs.declared.cursor.Cursor.{Cursor}
 use Rattle.wire.specs.declared.cursor.Cursor.TheVariants.{At, Stop}
 use Rattle.wire.specs.Parse.{Parsed, fault, got, bind, check, never-got}
-use Rattle.wire.specs.Codec.{Codec}
+use Rattle.wire.specs.Codec.{Codec, OneForm}
 use Rattle.wire.specs.Combinators.{only, opt-read}
 use Rattle.wire.specs.Number.{edge, number_read}
 use Rattle.wire.specs.Order.{Order}
 use Rattle.wire.specs.Maps.{Map, as_map-rows}
-use Rattle.wire.specs.Lists.{after, row, rows, rising, rising-read, all-rising}
+use Rattle.wire.specs.Lists.{after, row, rows, rising, rising-read}
 use Rattle.wire.specs.Reading.{Reads, Answers, run, give, cursor_in}
+use Rattle.wire.proofs.ListForms.{rows-one, all-rising}
 use Rattle.wire.proofs.Readers.{read-then, read-stop}
 use Rattle.image.specs.Places.{passed, Ends, rows_from, last_of}
 
@@ -168,12 +169,12 @@ module _ {K A : Type 0} (O : Order K) (key : Codec K) (value : Codec A) where
   rows_none (suc n) prev s h = absurd (omega arith)
 
   -- the rows that were read are a map
-  module _ (most : ℕ) (limit : leb most edge ≡ true) where
+  module _ (most : ℕ) (limit : leb most edge ≡ true) (one_key : OneForm key) (one_value : OneForm value) where
     rising-passed : (s : List ℕ) (o : Parsed (List (K × A))) → (rows O key value most limit).read s ≡ o → passed (rising-read O key value most limit s) ≡ passed o
     unfolding rising-read
     rising-passed s (fault f) e = rw e
     rising-passed s (got l r) e =
-        let w = ((rows O key value most limit).forth s l r e).1 in
+        let w = ((rows-one O key value one_key one_value most limit).forth s l r e).1 in
         let m : Map O A = record { rows = l; rising = (all-rising O key value none l w.1.1).1.0 } in
         rw (e, as_map-rows O m)
 

@@ -1,9 +1,7 @@
--- Demand 2's round trip: an image and the store that it means are two forms of one thing.
-use Rattle.std.specs.Prelude.{ℕ, ◌≡◌, List, [], ◌++◌}
-use Rattle.std.proofs.Common.{sym}
-use Rattle.wire.specs.Parse.{Parsed, fault, got}
-use Rattle.wire.specs.Codec.{Bytes, decode, decode-encode, encode-decode, decode-cut}
-use Rattle.wire.specs.declared.cursor.Fault.TheVariants.{Ended}
+-- An image and the store that it means are two forms of one thing: what reads one as the other, and what writes the other as the one.
+use Rattle.std.specs.Prelude.{List, ℕ}
+use Rattle.wire.specs.Parse.{Parsed}
+use Rattle.wire.specs.Codec.{Bytes, decode}
 use Rattle.image.specs.Meaning.{Store}
 use Rattle.image.specs.Fits.{FitsStore}
 use Rattle.image.specs.StoreLayout.{store}
@@ -16,26 +14,7 @@ read_image = decode store
 abbrev pub write_image : Store → List ℕ
 write_image = store.write
 
--- Reading an image and writing what was read gives back the very same bytes.
-pub read-then-write : (image : List ℕ) (s : Store) → read_image image ≡ got s [] → write_image s ≡ image
-read-then-write image s e = sym (encode-decode store image s [] e).0
-
--- Each store that fits has exactly one image: writing gives one that is read as that store, and any image read as that store is that one.
-pub one-image : (s : Store) → FitsStore s
-    → (read_image (write_image s) ≡ got s []) × ((image : List ℕ) → read_image image ≡ got s [] → image ≡ write_image s)
-unfolding store
-one-image s h = (decode-encode store s h, λ image e. (encode-decode store image s [] e).0)
-
--- Whatever is read fits, so the stores that fit are those that have an image.
-pub read_fits : (image : List ℕ) (s : Store) → read_image image ≡ got s [] → FitsStore s
-unfolding store
-read_fits image s e = (encode-decode store image s [] e).1
-
 -- A store that fits is written in bytes.
 pub image-plain : (s : Store) → FitsStore s → Bytes (write_image s)
 unfolding store
 image-plain s h = store.plain s h
-
--- An image that is cut short has ended, wherever it is cut.
-pub cut-image : (front rest : List ℕ) (s : Store) → read_image (front ++ rest) ≡ got s [] → (rest ≡ [] → ⊥) → read_image front ≡ fault Ended
-cut-image front rest s e n = let f = encode-decode store (front ++ rest) s [] e in decode-cut store s front rest f.1 f.0 n

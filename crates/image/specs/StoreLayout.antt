@@ -4,11 +4,13 @@ use Rattle.std.specs.Prelude.{ℕ, suc, ◌≤◌, ◌<◌, ◌≡◌, refl, Boo
 use Rattle.std.proofs.Math.Option.{Option, none, some}
 use Rattle.std.proofs.Common.{arith, lt-ltb, ltb-true}
 use Rattle.wire.specs.declared.time.Time.{Time}
+use Rattle.wire.specs.declared.order.Ordering.{Ordering}
+use Rattle.wire.specs.declared.order.Ordering.TheVariants.{Less, Equal, Greater}
 use Rattle.wire.specs.Codec.{Codec}
 use Rattle.wire.specs.Combinators.{seq, ◌then◌, via, restated, only, tagged}
 use Rattle.wire.specs.Number.{number_to, between}
-use Rattle.wire.specs.Orders.{by_number, cmp_n, less-N, says}
-use Rattle.wire.specs.Lists.{chain, All, Every, is-less, after, row}
+use Rattle.wire.specs.Orders.{by_number, cmp_n, less-N, Says, says}
+use Rattle.wire.specs.Lists.{chain, All, Every, is_less, after, row}
 use Rattle.image.specs.Meaning.{Base, Layer, Batch, Store}
 use Rattle.image.specs.Fits.{FitsBatch, RisingIds, FitsBatches, FitsStore}
 use Rattle.image.specs.FieldLayout.{inode, word, moment}
@@ -45,7 +47,12 @@ least-rises (some p) n h = rw (less-N p n h)
 
 pub rises-least : (prev : Option ℕ) (n : ℕ) → rises prev n ≡ true → least prev ≤ n
 rises-least none n h = omega arith
-rises-least (some p) n h = rw (is-less (cmp_n p n) h) at (says p n)
+rises-least (some p) n h = go (cmp_n p n) (says p n) h
+  where
+    go : (o : Ordering) → Says p n o → is_less o ≡ true → suc p ≤ n
+    go Less s e = omega (arith, s)
+    go Equal s e = cc
+    go Greater s e = cc
 
 abbrev pub plain_batch : Option ℕ → Codec Batch
 plain_batch prev = via batch_of batch_parts (λ b. refl) (row by_number inode batch_rest prev) (λ p h. refl)

@@ -53,6 +53,9 @@ use Rattle.change.specs.Sections.{between}
 use Rattle.keep.specs.Below.{inode_given}
 use Rattle.keep.specs.Keeps.{keeps, kept_map, keep_rows, kept_rows, leads_in, Rises, AtName, Sought, Keeps, PutsRow, PutsKept}
 use Rattle.keep.specs.declared.keep.Kept.{Kept}
+use Rattle.nodes.proofs.OneForm.{by_name-one}
+use Rattle.wire.proofs.OneForm.{then-one}
+use Rattle.image.proofs.OneForm.{name-one, under-one}
 
 -- ---- rows that pass a test
 
@@ -271,7 +274,7 @@ module _ {img : List ℕ} {u : UnderN.Under} {m : Merge} {old : List ℕ} {at fi
     pub keeping-few : IsList img u p → k.count < edge
     keeping-few i =
         let q = g.kept (list_at img u p).rows l in
-        omega (arith, q.counts, keep-few (λ k v. keeps u (leads_in img m k) v) (list_at img u p).rows, ((by_name u).forth _ _ _ i.1.is).1.0)
+        omega (arith, q.counts, keep-few (λ k v. keeps u (leads_in img m k) v) (list_at img u p).rows, ((by_name-one u).forth _ _ _ i.1.is).1.0)
 
   module _ (h : 0 < left) {r : RowRead} (w : ReadsRow img u here r) {seen : Merge} (s : Sought img rest (row_name img r) seen) where
     -- the names after the row's are not less
@@ -293,7 +296,7 @@ module _ {img : List ℕ} {u : UnderN.Under} {m : Merge} {old : List ℕ} {at fi
 
         row-bytes : between img here r.next ≡ name.write (row_name img r) ++ (under u).write w.value
         row-bytes =
-            part-written (name then under u) {a = (row_name img r, w.value)} q.standing.within
+            part-written (name then under u) (then-one name (under u) name-one (under-one u)) {a = (row_name img r, w.value)} q.standing.within
             (record { same = rw (w.named, w.held); within = w.within })
 
         rows_are : (x : Bool) → b ≡ x → kept_rows u (leads_in img m) q.rows ≡ cond x ((row_name img r, w.value) ∷ kept_rows u (leads_in img m) t.others) (kept_rows u (leads_in img m) t.others)

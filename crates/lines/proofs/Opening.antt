@@ -10,7 +10,7 @@ use lib.ListN.{length, drop, length-append}
 use lib.Seq.{drop-append_seam}
 use borrow.Author.Tests.{leb-true}
 use Rattle.wire.specs.Parse.{Parsed, fault, got, never-got}
-use Rattle.wire.specs.Codec.{decode, encode-decode}
+use Rattle.wire.specs.Codec.{decode}
 use Rattle.image.specs.Meaning.{Base, Store}
 use Rattle.image.specs.Fits.{FitsStore}
 use Rattle.image.specs.NodeLayout.{node, base}
@@ -34,6 +34,8 @@ use Rattle.lines.specs.Rows.{FirstRows, OpensTo, OpensListing}
 use Rattle.lines.specs.declared.rows.Rows.{Rows}
 use Rattle.lines.specs.declared.rows.Opened.{Opened}
 use Rattle.lines.specs.declared.rows.Opened.TheVariants as O
+use Rattle.wire.proofs.Decoding.{encode-decode}
+use Rattle.image.proofs.OneForm.{store-one}
 
 -- the snapshot's bytes are those of the snapshot
 snapshot-bytes : (room : ℕ) (img : List ℕ) → snapshot_all usual img room ≡ map_answer write_image (snapshot_of room img)
@@ -53,7 +55,7 @@ snapshot-bytes room img = go (ltb 65536 (length img)) (read_image img)
 -- what is read fits
 read_fits : (img : List ℕ) {s : Store} {r : List ℕ} → read_image img ≡ got s r → FitsStore s
 unfolding store
-read_fits img {s} {r} e = (encode-decode store img s r e).1
+read_fits img {s} {r} e = (encode-decode store store-one img s r e).1
 
 both_true : (a b : Bool) → (a && b) ≡ true → a ≡ true
 both_true true b e = refl

@@ -18,7 +18,7 @@ use Rattle.wire.specs.Orders.{by_bytes}
 use Rattle.wire.specs.Rows.{choose, lookup, Under}
 use Rattle.wire.specs.RowLaws.{lookup-under, under-below, never-lt}
 use Rattle.wire.specs.Maps.{Map, get, as_map, rows-as_map}
-use Rattle.wire.specs.Lists.{row, onto, rows, rising-read, mapped, last_count, chain-forth, all-rising}
+use Rattle.wire.specs.Lists.{row, onto, rows, rising-read, mapped, last_count}
 use Rattle.wire.specs.Reading.{Reads, Answers, AnswersPart, part, give, place_at}
 use Rattle.image.specs.declared.name.Under as U
 use Rattle.image.specs.Meaning.{Text}
@@ -32,6 +32,8 @@ use Rattle.nodes.specs.declared.part.Part.{Part}
 use Rattle.lookup.specs.declared.search.Rows.{Rows}
 use Rattle.lookup.specs.declared.search.RowRead.{RowRead}
 use Rattle.lookup.specs.Search.{row_name, Standing, ListRows, RowAt, ReadsRow}
+use Rattle.wire.proofs.ListForms.{chain-forth, row-one, all-rising}
+use Rattle.image.proofs.OneForm.{name-one, under-one}
 
 -- ---- the count of a list, and its rows
 
@@ -103,7 +105,7 @@ module _ {img : List ℕ} {u : U.Under} where
         let ev : e.1 ≡ g.value = cc g.held in
         let et : t ≡ drop r.next img = cc g.held in
         let k : rows_from by_bytes name (under u) n (some (row_name img r)) (drop r.next img) ≡ got others q = rw (ek, et) at b in
-        let f = chain-forth (row by_bytes name (under u)) (onto by_bytes name (under u)) n (some (row_name img r)) (drop r.next img) others q k in
+        let f = chain-forth (row by_bytes name (under u)) (onto by_bytes name (under u)) (row-one by_bytes name (under u) name-one (under-one u)) n (some (row_name img r)) (drop r.next img) others q k in
         let z : suc n - 1 ≡ n = omega arith in
         record {
           others = others;

@@ -29,6 +29,7 @@ use Rattle.meld.specs.Merged.{melded, ChangeRow, or_end, rows_read, rows_at, mer
 use Rattle.change.specs.Edits.{edit_rows, put_all}
 use Rattle.change.proofs.Cutting.{chain-rows}
 use Rattle.change.proofs.EditRows.{put-rows}
+use Rattle.image.proofs.OneForm.{changes-one}
 
 -- ---- rising lists
 
@@ -84,7 +85,7 @@ list-rows {bytes} {p} {end} h =
     let m = list_at bytes U.Change p in
     let l = m.rows in
     let t = drop end bytes in
-    let f = (listed by_bytes name (maybe value)).forth (drop p.start bytes) m t h.is in
+    let f = changes-one.forth (drop p.start bytes) m t h.is in
     let e : drop p.start bytes ≡ number_bytes (length l) ++ (rows_bytes name (maybe value) l ++ t) =
     f.0 ∙ ap (λ (x : List ℕ). (number_bytes (length l) ++ x) ++ t) (chain-rows by_bytes name (maybe value) none l) ∙ append_assoc (number_bytes (length l)) (rows_bytes name (maybe value) l) t in
     ap (λ (s : List ℕ). or_end (number_read last_count s) rows_read) e

@@ -37,6 +37,7 @@ use Rattle.meld.specs.declared.merged.Turn.{Turn}
 use Rattle.meld.specs.declared.merged.MergedRows.{MergedRows}
 use Rattle.change.proofs.Sections.{span-part}
 use Rattle.change.proofs.Finishing.{not-false}
+use Rattle.image.proofs.OneForm.{name-one, value-one, maybe-one}
 
 -- ---- the first row of a list
 
@@ -79,8 +80,8 @@ leads-to : (bytes : List ℕ) (l : Left) (s n m end : ℕ) (v : Option Text) →
 unfolding rows_read
 leads-to bytes l s n m end v c r p h =
     let k = part bytes s n in
-    let a = name.forth (drop l.first bytes) k (drop m bytes) r in
-    let b = (maybe value).forth (drop m bytes) v (drop end bytes) p in
+    let a = name-one.forth (drop l.first bytes) k (drop m bytes) r in
+    let b = (maybe-one value value-one).forth (drop m bytes) v (drop end bytes) p in
     let w = change_bytes (k, v) in
     let d : drop l.first bytes ≡ w ++ drop end bytes =
     a.0 ∙ ap (λ (t : List ℕ). name.write k ++ t) b.0 ∙ sym (append_assoc (name.write k) ((maybe value).write v) (drop end bytes)) in

@@ -21,6 +21,7 @@ use Rattle.rules.proofs.MapValues.{map_row, map_values}
 use Rattle.rules.proofs.ListPlaces.{on}
 use Rattle.merge.specs.Pile.{Ascend, rows_of, itself}
 use Rattle.merge.specs.Sources.{Given, Decided, decided, rows_from, list_rows}
+use Rattle.nodes.proofs.OneForm.{by_name-one}
 
 abbrev pub Deciding : Type 0
 Deciding = Map by_bytes (Option (ℕ × Given))
@@ -59,7 +60,7 @@ module _ (img : List ℕ) (u : Under) where
   pub list-are : (p : ℕ) (m : Map by_bytes (UnderName u)) (r : List ℕ) → (by_name u).read (drop p img) ≡ got m r → list_rows img u p ≡ (source_of u p m).rows
   unfolding starts map_values
   list-are p m r e =
-      let f = (by_name u).forth (drop p img) m r e in
+      let f = (by_name-one u).forth (drop p img) m r e in
       let n = number_bytes (length m.rows) in
       let t = rows_written none m.rows ++ r in
       let d : drop p img ≡ n ++ t = f.0 ∙ append_assoc n (rows_written none m.rows) r in

@@ -12,7 +12,7 @@ use Rattle.wire.specs.declared.cursor.Fault.{Fault}
 use Rattle.wire.specs.declared.cursor.Cursor.{Cursor}
 use Rattle.wire.specs.declared.cursor.Cursor.TheVariants.{At, Stop}
 use Rattle.wire.specs.Parse.{Parsed, fault, got, bind, never-got}
-use Rattle.wire.specs.Codec.{Codec}
+use Rattle.wire.specs.Codec.{Codec, OneForm}
 use Rattle.wire.specs.Combinators.{◌then◌}
 use Rattle.wire.specs.Number.{edge, number_bytes, number_read, number-one, number_to}
 use Rattle.wire.specs.Text.{text-read}
@@ -33,6 +33,9 @@ use Rattle.rules.specs.Changes.{map_if}
 use Rattle.merge.specs.declared.source.Source.{Source}
 use Rattle.merge.specs.declared.source.Head.{Head}
 use Rattle.merge.specs.Sources.{Given, Decided, choice, decided, chosen, chosen_read, is_set, value_of, rows_if, rows_from, row_at, Chooses, Ended, NoRow, Inside, HeadOf, ListOf}
+use Rattle.wire.proofs.OneForm.{then-one}
+use Rattle.wire.proofs.NumberForms.{number_to-one}
+use Rattle.image.proofs.OneForm.{name-one, under-one}
 
 -- ---- what stands under a name
 
@@ -58,9 +61,9 @@ choice-change {img} o e h d f = record { reads = rw (e, d, f, ← (set-chosen im
 -- ---- a row
 
 -- what is read, and is a byte long at least, ends as far on as it is long
-read-on : {A : Type 0} (img : List ℕ) (c : Codec A) (a : A) (p q : ℕ) → 1 ≤ length (c.write a) → q ≤ length img → c.read (drop p img) ≡ got a (drop q img)
+read-on : {A : Type 0} (img : List ℕ) (c : Codec A) → OneForm c → (a : A) (p q : ℕ) → 1 ≤ length (c.write a) → q ≤ length img → c.read (drop p img) ≡ got a (drop q img)
     → q ≡ p + length (c.write a)
-read-on img c a p q h w e = omega (arith, simp (length-drop, length-append) at (ap length (c.forth _ _ _ e).0))
+read-on img c one a p q h w e = omega (arith, simp (length-drop, length-append) at (ap length (one.forth _ _ _ e).0))
 
 -- the first of some rows
 rows-first : (img : List ℕ) (u : Under) (n p : ℕ) → (n ≡ 0 → ⊥)
@@ -115,7 +118,7 @@ module _ (img : List ℕ) (u : Under) (p start size : ℕ) where
   name-start (Stop g) x q t v = never-got v.same
   name-start (At m) x q t v =
       let k = part img start size in
-      let z : m ≡ p + length (name.write k) = read-on img name k p m (simp length-append (omega (arith, number-one (length k)))) t.reads.within t.reads.same in
+      let z : m ≡ p + length (name.write k) = read-on img name name-one k p m (simp length-append (omega (arith, number-one (length k)))) t.reads.within t.reads.same in
       omega (arith, z, length-append (number_bytes (length k)) k, length-take-le size (drop start img) (omega (arith, length-drop start img, t.inside)), t.ends)
 
 module _ {img : List ℕ} {u : Under} {n p start size : ℕ} {named : Cursor} (h : n ≡ 0 → ⊥) (t : AnswersPart img (text-read 1 255) (At p) start size named)
@@ -130,7 +133,7 @@ module _ {img : List ℕ} {u : Under} {n p start size : ℕ} {named : Cursor} (h
       let r = row_read img u p start size named (chosen b (i, text_at img value)) q t.reads d in
       let w = name.write k ++ (under u).write r.0 in
       let long : 1 ≤ length w = simp length-append (omega (arith, number-one (length k))) in
-      let z : q ≡ p + length w = read-on img (name then under u) (k, r.0) p q long d.within r.2 in
+      let z : q ≡ p + length w = read-on img (name then under u) (then-one name (under u) name-one (under-one u)) (k, r.0) p q long d.within r.2 in
       let y = name-start img u p start size named (chosen b (i, text_at img value)) q t d in
       record { are = rw (rows-first img u n p h, r.2, r.1, ← y, ← z); inside = record { ends = t.inside } }
 
@@ -144,5 +147,5 @@ module _ {img : List ℕ} {u : Under} {n p : ℕ} {next : Cursor} (h : Answers i
   pub list-rows : {q : ℕ} → next ≡ At q → ListOf img u p (record { at = q; left = n; what = u })
   list-rows {q} e =
       let g : Reads img (number_read last_count) (At p) n (At q) = rw e at h.reads in
-      let z : q ≡ p + length (number_bytes n) = read-on img (number_to last_count refl) n p q (number-one n) g.within g.same in
+      let z : q ≡ p + length (number_bytes n) = read-on img (number_to last_count refl) (number_to-one last_count refl) n p q (number-one n) g.within g.same in
       record { are = rw (g.same, z) }

@@ -2,3 +2,4 @@
 pub mod Reading
 pub mod Values
 pub mod Nodes
+pub mod OneForm

@@ -25,6 +25,7 @@ use Rattle.nodes.specs.Listed.{Listed, IfAt, ReadsNames}
 use Rattle.nodes.specs.Nodes.{meta_meant, body_meant, node_meant, EntriesListed, body_read, ReadsMeta, ReadsKind, ReadsNode}
 use Rattle.nodes.proofs.Reading.{reads-length, reads_byte}
 use Rattle.nodes.proofs.Values.{reads_made, reads-pair}
+use Rattle.image.proofs.OneForm.{meta-one}
 
 abbrev together : Meta → Body → M.Node
 together m b = record { meta = m; body = b }
@@ -43,7 +44,7 @@ module _ {img : List ℕ} {n : ℕ} {m : InodeMeta} {b : NodeKind} where
   attributes-end at (C.Stop f) (C.At i) (C.At q) h g k p e = never-got g.reads.same
   attributes-end at (C.At s) (C.At i) (C.At q) h g k p e =
       let d : s ≡ p + 1 = reads_byte (omega arith) (rw e at h.reads) in
-      let z : i ≡ p + 1 + length (meta.write (meta_meant img m)) = omega (arith, reads-length meta h.reads.within g.reads) in
+      let z : i ≡ p + 1 + length (meta.write (meta_meant img m)) = omega (arith, reads-length meta meta-one h.reads.within g.reads) in
       rw z at g.attributes
 
   pub reads-node : {at start middle next : Cursor} → Answers img (number_read 6) at 0 n start → ReadsMeta img start m middle → ReadsKind img (kind_at n) middle b next

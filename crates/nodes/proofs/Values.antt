@@ -30,6 +30,7 @@ use Rattle.nodes.specs.declared.attr.Words.{Words}
 use Rattle.nodes.specs.Options.{word_of}
 use Rattle.nodes.specs.Attrs.{ReadsChanges, later_read}
 use Rattle.nodes.specs.Listed.{list_at, IfAt, by_name, ReadsNames, between, part_from}
+use Rattle.nodes.proofs.OneForm.{by_name-one}
 
 -- a field that is there, or not
 module _ {A : Type 0} (p : List ℕ → Parsed A) {img : List ℕ} {bit : ℕ} where
@@ -86,7 +87,7 @@ module _ {img : List ℕ} (u : Under) where
   list-forth : {n q : ℕ} → Ends img (by_name u).read (At n) (At q) → n ≤ q
   list-forth {n} {q} h =
       let g = ends-got {p = (by_name u).read} {n = n} {q = q} h in
-      let f = ap length ((by_name u).forth (drop n img) g.0 (drop q img) g.1).0 in
+      let f = ap length ((by_name-one u).forth (drop n img) g.0 (drop q img) g.1).0 in
       let w = (by_name u).write g.0 in
       let one : 1 ≤ length w = written_one u g.0 in
       omega (arith, f, length-append w (drop q img), one, length-drop n img, length-drop q img, h.within)

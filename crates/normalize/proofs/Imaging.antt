@@ -30,7 +30,8 @@ use Rattle.image.specs.NodeLayout.{base}
 use Rattle.image.specs.RecordLayout.{layer_record, records}
 use Rattle.image.specs.StoreLayout.{batches}
 use Rattle.survey.specs.Gathering.{batch_head}
-use Rattle.image.specs.RoundTrip.{write_image, read_fits}
+use Rattle.image.specs.RoundTrip.{write_image}
+use Rattle.image.proofs.RoundTrip.{read_fits}
 use Rattle.writers.specs.Tails.{tail}
 use Rattle.rules.specs.Initial.{usual}
 use Rattle.rules.specs.Calls.{Call}

@@ -55,6 +55,8 @@ use Rattle.walk.specs.Walks.{pieces_in}
 use Rattle.keep.specs.Below.{Leads}
 use Rattle.keep.specs.Keeps.{leads_in, kept_map}
 use Rattle.normalize.specs.Records.{is_directory, normal_in, normal_pieces, Copies}
+use Rattle.nodes.proofs.OneForm.{by_name-one}
+use Rattle.image.proofs.OneForm.{layer_record-one}
 
 -- bytes from one place to another
 pub between_is : (img : List ℕ) (place q : ℕ) (w : List ℕ) → drop place img ≡ w ++ drop q img → q ≤ length img → between img place q ≡ w
@@ -94,14 +96,14 @@ module _ {img : List ℕ} {place : ℕ} {d : DirectoryDelta} (g : RecordIs img p
   front_bytes =
       let e = entries.write a ++ (names.write r ++ drop g.end img) in
       let x : drop place img ≡ front ++ e =
-      (layer_record.forth _ _ _ g.reads.reads.same).0 ∙ ap (λ (t : List ℕ). t ++ drop g.end img) (directory-bytes f p a r) ∙ append_assoc front (entries.write a ++ names.write r) (drop g.end img)
+      (layer_record-one.forth _ _ _ g.reads.reads.same).0 ∙ ap (λ (t : List ℕ). t ++ drop g.end img) (directory-bytes f p a r) ∙ append_assoc front (entries.write a ++ names.write r) (drop g.end img)
       ∙ ap (λ (t : List ℕ). front ++ t) (append_assoc (entries.write a) (names.write r) (drop g.end img)) in
       let y : drop d.added.start img ≡ e =
-      ((by_name U.Inode).forth _ _ _ added-listed.is).0 ∙ ap (λ (t : List ℕ). entries.write a ++ t) ((by_name U.Nothing).forth _ _ _ removed-listed.is).0 in
+      ((by_name-one U.Inode).forth _ _ _ added-listed.is).0 ∙ ap (λ (t : List ℕ). entries.write a ++ t) ((by_name-one U.Nothing).forth _ _ _ removed-listed.is).0 in
       between_is img place d.added.start front (x ∙ ap (λ (t : List ℕ). front ++ t) (sym y)) (omega (arith, added-listed.ends, added-listed.inside))
 
   entries-bytes : between img d.added.start d.removed.start ≡ entries.write a
-  entries-bytes = part-written (by_name U.Inode) (omega (arith, added-listed.ends, added-listed.inside)) (record { same = added-listed.is; within = added-listed.inside })
+  entries-bytes = part-written (by_name U.Inode) (by_name-one U.Inode) (omega (arith, added-listed.ends, added-listed.inside)) (record { same = added-listed.is; within = added-listed.inside })
 
   pub lists-there : IsList img U.Inode d.added × IsList img U.Nothing d.removed
   lists-there = ((d.removed.start, added-listed), (g.end, removed-listed))
@@ -164,7 +166,7 @@ copied {img} {place} next {q} h e {old} {new} {at} {r} p = record { copies = λ 
     go (At n) h e x g =
         let y = ends-got h in
         let z : entry_meant img x ≡ y.0 = cc (g.reads.reads.same, y.1) in
-        let w = (layer_record.forth _ _ _ y.1).0 in
+        let w = (layer_record-one.forth _ _ _ y.1).0 in
         rw (z, ← (between_is img place n (layer_record.write y.0) w h.within), ← e) p
 
 -- ---- the topmost record of a stack

@@ -15,7 +15,7 @@ use Rattle.wire.specs.declared.cursor.Cursor.TheVariants.{At, Stop}
 use Rattle.wire.specs.Orders.{by_number}
 use Rattle.wire.specs.Maps.{over, get, put}
 use Rattle.wire.specs.Parse.{Parsed, fault, got}
-use Rattle.wire.specs.Codec.{Codec, whole, decode, encode-decode}
+use Rattle.wire.specs.Codec.{Codec, whole, decode}
 use Rattle.wire.specs.Number.{number_bytes, groups}
 use Rattle.wire.specs.Reading.{Reads}
 use Rattle.image.specs.Meaning.{Record, Store, tombstone, delta}
@@ -54,6 +54,8 @@ use Rattle.change.proofs.Sections.{span-part, span-both, store_bytes, stands-fit
 use Rattle.change.proofs.Finishing.{not-false, changes-refused, changes-made}
 use Rattle.change.proofs.Cutting.{get-here, here-row, count-more, count_same}
 use Rattle.change.proofs.Splicing.{splices-bytes, piece-last}
+use Rattle.wire.proofs.Decoding.{encode-decode}
+use Rattle.image.proofs.OneForm.{layer_record-one}
 
 -- ---- whether one construct was given, and no more
 
@@ -188,7 +190,7 @@ module _ {img : List ℕ} {p : Sections} {s : Store} (w : Stands img p s) {i : �
       go (fault f) e = absurd (not-false (rw e at h))
       go (got tombstone r) e = absurd (not-false (rw e at h))
       go (got (delta d) r) e =
-          let g : given ≡ layer_record.write (delta d) = (encode-decode layer_record given (delta d) r e).0 in
+          let g : given ≡ layer_record.write (delta d) = (encode-decode layer_record layer_record-one given (delta d) r e).0 in
           changes-made (Call.insert i (given_record given)) w (rw e)
           (ap (one_image img given given p) q ∙ replaced-image w c given given N.Given (delta d) (ap (λ (t : List ℕ). number_bytes i ++ t) g) ∙ rw e) k
 

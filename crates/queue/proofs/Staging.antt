@@ -14,7 +14,8 @@ use Rattle.image.specs.Meaning.{Store}
 use Rattle.image.specs.NodeLayout.{base}
 use Rattle.image.specs.RecordLayout.{records}
 use Rattle.image.specs.StoreLayout.{batches}
-use Rattle.image.specs.RoundTrip.{write_image, read_fits}
+use Rattle.image.specs.RoundTrip.{write_image}
+use Rattle.image.proofs.RoundTrip.{read_fits}
 use Rattle.writers.specs.Tails.{TailParts, tail, tail_meant}
 use Rattle.writers.specs.declared.tail.Tail.{Tail}
 use Rattle.rules.specs.Initial.{usual}

@@ -6,12 +6,13 @@ use mathlib.Core.Bool.{Bool, true, false, cond}
 use Prim.Native.Nat.{ℕ, ◌≤◌}
 use native.Mathlib.Omega.{arith}
 use Rattle.wire.specs.Parse.{Parsed, fault, got}
-use Rattle.wire.specs.Codec.{decode, encode-decode}
+use Rattle.wire.specs.Codec.{decode}
 use Rattle.wire.specs.Lists.{Every}
 use Rattle.image.specs.Meaning.{Fields, Record, Store}
 use Rattle.image.specs.Fits.{IfGiven, FitsFields, FitsRecord, FitsStore}
 use Rattle.image.specs.RecordLayout.{fields, layer_record}
-use Rattle.image.specs.RoundTrip.{read_image, write_image, read-then-write, one-image, read_fits}
+use Rattle.image.specs.RoundTrip.{read_image, write_image}
+use Rattle.image.proofs.RoundTrip.{read-then-write, one-image, read_fits}
 use Rattle.rules.specs.Initial.{Initial, Accepted, usual}
 use Rattle.rules.specs.Answers.{Answer, refused, answer, first_of, unless, is_refused}
 use Rattle.rules.specs.Views.{View}
@@ -31,6 +32,8 @@ use Rattle.rules.proofs.Demand.{demand-3-for, stays-orderly}
 use Rattle.rules.proofs.ResultImage.{usual-fits}
 use Rattle.rules.proofs.ListImage.{lent_fits, after-fits}
 use Rattle.rules.proofs.Asked.{over-fine, calls-answer}
+use Rattle.wire.proofs.Decoding.{encode-decode}
+use Rattle.image.proofs.OneForm.{layer_record-one, fields-one}
 
 -- ---- the arguments
 
@@ -41,7 +44,7 @@ record-given bytes = go (decode layer_record bytes) refl
   where
     go : (p : Parsed Record) → decode layer_record bytes ≡ p → IfGiven FitsRecord (if_read p)
     go (fault f) e = tt
-    go (got r rest) e = (encode-decode layer_record bytes r rest e).1
+    go (got r rest) e = (encode-decode layer_record layer_record-one bytes r rest e).1
 
 fields-given : (bytes : List ℕ) → IfGiven FitsFields (given_fields bytes)
 unfolding fields
@@ -49,7 +52,7 @@ fields-given bytes = go (decode fields bytes) refl
   where
     go : (p : Parsed Fields) → decode fields bytes ≡ p → IfGiven FitsFields (if_read p)
     go (fault f) e = tt
-    go (got r rest) e = (encode-decode fields bytes r rest e).1
+    go (got r rest) e = (encode-decode fields fields-one bytes r rest e).1
 
 pub typed-fits : (c : CodeCall) → Typed c → FitsCall (meant c)
 typed-fits (CodeCall.insert_new_node i delta) h = (h, record-given delta)

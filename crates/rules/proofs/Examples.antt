@@ -16,7 +16,8 @@ use Rattle.image.specs.Meaning.{Text, Fields, Change, Record, Store, directory, 
 use Rattle.image.specs.FieldLayout.{size}
 use Rattle.image.specs.StoreLayout.{batches, store}
 use Rattle.survey.specs.Verdict.{refusal_of, verdict_of}
-use Rattle.image.specs.RoundTrip.{read_image, write_image, one-image, cut-image}
+use Rattle.image.specs.RoundTrip.{read_image, write_image}
+use Rattle.image.proofs.RoundTrip.{one-image, cut-image}
 use Rattle.rules.specs.Initial.{usual}
 use Rattle.rules.specs.Fold.{same_kind, fold_record}
 use Rattle.rules.specs.Answers.{refused, answer}

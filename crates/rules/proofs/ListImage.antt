@@ -11,7 +11,8 @@ use Rattle.wire.specs.Parse.{got}
 use Rattle.wire.specs.Lists.{Every}
 use Rattle.image.specs.Meaning.{Store}
 use Rattle.image.specs.Fits.{FitsStore}
-use Rattle.image.specs.RoundTrip.{read_image, write_image, one-image}
+use Rattle.image.specs.RoundTrip.{read_image, write_image}
+use Rattle.image.proofs.RoundTrip.{one-image}
 use Rattle.rules.specs.Initial.{Initial}
 use Rattle.rules.specs.Answers.{refused, answer, unless}
 use Rattle.rules.specs.Calls.{Call}

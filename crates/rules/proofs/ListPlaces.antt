@@ -8,7 +8,7 @@ use lib.ListN.{length, drop, length-append, length-drop}
 use lib.Seq.{drop-drop, drop-append_seam}
 use Rattle.wire.specs.Parse.{got}
 use Rattle.wire.specs.Number.{number_bytes, groups}
-use Rattle.wire.specs.Codec.{Codec}
+use Rattle.wire.specs.Codec.{Codec, OneForm}
 use Rattle.wire.specs.Combinators.{opt_write}
 use Rattle.wire.specs.declared.cursor.Cursor.TheVariants.{At}
 use Rattle.wire.specs.Reading.{Reads}
@@ -20,6 +20,7 @@ use Rattle.image.specs.NodeLayout.{meta, body_part, body_part_of, node}
 use Rattle.image.specs.Places.{Ends}
 use Rattle.image.specs.RecordLayout.{changes, names, field_parts, flags, fields, change_part, change_part_of, layer_record}
 use Rattle.rules.specs.Starts.{attributes_at, entries_at, changes_at, added_at}
+use Rattle.image.proofs.OneForm.{node-one, layer_record-one}
 
 module _ (img : List ℕ) where
   -- what follows bytes that stand at a place
@@ -27,17 +28,17 @@ module _ (img : List ℕ) where
   on p w t e = sym (drop-drop (length w) p img) ∙ ap (drop (length w)) e ∙ drop-append_seam w t
 
   -- the cursor after what was read is as far on as what is written is long
-  pub read-place : {A : Type 0} (c : Codec A) (p q : ℕ) {a : A} → p ≤ length img → Reads img c.read (At p) a (At q) → q ≡ p + length (c.write a)
-  read-place c p q {a} h r =
-      let f = (c.forth (drop p img) a (drop q img) r.same).0 in
+  pub read-place : {A : Type 0} (c : Codec A) → OneForm c → (p q : ℕ) {a : A} → p ≤ length img → Reads img c.read (At p) a (At q) → q ≡ p + length (c.write a)
+  read-place c one p q {a} h r =
+      let f = (one.forth (drop p img) a (drop q img) r.same).0 in
       let l : length (drop p img) ≡ length (c.write a) + length (drop q img) = ap length f ∙ length-append (c.write a) (drop q img) in
       omega (arith, length-drop p img, length-drop q img, r.within)
 
-  pub ends-place : {A : Type 0} (c : Codec A) (p q : ℕ) {a : A} {r : List ℕ} → p ≤ length img → Ends img c.read (At p) (At q) → c.read (drop p img) ≡ got a r
+  pub ends-place : {A : Type 0} (c : Codec A) → OneForm c → (p q : ℕ) {a : A} {r : List ℕ} → p ≤ length img → Ends img c.read (At p) (At q) → c.read (drop p img) ≡ got a r
       → q ≡ p + length (c.write a)
-  ends-place c p q {a} {r} h w e =
+  ends-place c one p q {a} {r} h w e =
       let z : r ≡ drop q img = let d = rw e at w.same in cc in
-      read-place c p q h (record { same = e ∙ ap (got a) z; within = w.within })
+      read-place c one p q h (record { same = e ∙ ap (got a) z; within = w.within })
 
 -- ---- a node and a delta
 
@@ -88,7 +89,7 @@ module _ (img : List ℕ) (p : ℕ) where
   meta-at n r e =
       let k = kind.write (kind_of n.body) in
       let t = meta.write n.meta ++ ((body_part (kind_of n.body)).write (body_part_of n.body) ++ r) in
-      let d : drop p img ≡ k ++ t = simp append_assoc at (node.forth (drop p img) n r e).0 in
+      let d : drop p img ≡ k ++ t = simp append_assoc at (node-one.forth (drop p img) n r e).0 in
       rw (kind-byte (kind_of n.body)) at (on img p k t d)
 
   fields_at : (d : Delta) (r : List ℕ) → layer_record.read (drop p img) ≡ got (delta d) r
@@ -97,7 +98,7 @@ module _ (img : List ℕ) (p : ℕ) where
   fields_at d r e =
       let k = code.write (some (changed_kind d.change)) in
       let t = fields.write d.fields ++ ((change_part (changed_kind d.change)).write (change_part_of d.change) ++ r) in
-      let g : drop p img ≡ k ++ t = simp append_assoc at (layer_record.forth (drop p img) (delta d) r e).0 in
+      let g : drop p img ≡ k ++ t = simp append_assoc at (layer_record-one.forth (drop p img) (delta d) r e).0 in
       rw (code-byte (changed_kind d.change)) at (on img p k t g)
 
   -- what ends at a place, less its own length

@@ -9,7 +9,7 @@ use lib.Seq.{take-length}
 use Rattle.wire.specs.declared.cursor.Cursor.{Cursor}
 use Rattle.wire.specs.declared.cursor.Cursor.TheVariants.{At, Stop}
 use Rattle.wire.specs.Parse.{Parsed, fault, got, never-got}
-use Rattle.wire.specs.Codec.{Codec}
+use Rattle.wire.specs.Codec.{Codec, OneForm}
 use Rattle.wire.specs.Orders.{by_number}
 use Rattle.wire.specs.Maps.{get}
 use Rattle.wire.specs.Reading.{run, give, cursor_in}
@@ -30,19 +30,20 @@ use Rattle.survey.proofs.Surveyed.{AllHold, if_there, batch_records, records_of,
 use Rattle.rules.specs.Stacks.{over?, stack_on, stack, with_live, layers}
 use Rattle.rules.specs.Starts.{Placed}
 use Rattle.rules.specs.PlacedStacks.{cursor_after, batches_at, live_at, node_place, record_places, read_at, node_at, on_top, records_on, placed_records, placed_node, unplaced, unplaced_node}
+use Rattle.image.proofs.OneForm.{base-one, batches-one, store-one, records-one}
 
 -- ---- cursors
 
 module _ {A : Type 0} {img : List ℕ} (c : Codec A) where
   -- what is read ends at the cursor after it
-  after-ends : (at : Cursor) → cursor_in img at → Ends img c.read at (cursor_after img (run img c.read at))
-  after-ends (Stop f) w = record { same = refl; within = tt }
-  after-ends (At n) w = go (c.read (drop n img)) refl
+  after-ends : OneForm c → (at : Cursor) → cursor_in img at → Ends img c.read at (cursor_after img (run img c.read at))
+  after-ends one (Stop f) w = record { same = refl; within = tt }
+  after-ends one (At n) w = go (c.read (drop n img)) refl
     where
       go : (o : Parsed A) → c.read (drop n img) ≡ o → Ends img c.read (At n) (cursor_after img o)
       go (fault f) e = record { same = rw e; within = tt }
       go (got a r) e =
-          let s = suffix-rest c (suffix-drop img n w) e in
+          let s = suffix-rest c one (suffix-drop img n w) e in
           record { same = rw (e, ← s.is); within = omega arith }
 
   -- and ends nowhere else
@@ -92,13 +93,13 @@ module _ (img : List ℕ) (i : ℕ) where
   surveys : Surveys img i surveyed
   unfolding node_place record_places
   surveys =
-      let b = after-ends {img = img} base (At 0) (omega arith) in
-      let l = after-ends {img = img} batches (batches_at img) b.within in
+      let b = after-ends {img = img} base base-one (At 0) (omega arith) in
+      let l = after-ends {img = img} batches batches-one (batches_at img) b.within in
       record {
-        ends = after-ends {img = img} store (At 0) (omega arith);
+        ends = after-ends {img = img} store store-one (At 0) (omega arith);
         base = b;
         batches = l;
-        live = after-ends {img = img} records (live_at img) l.within;
+        live = after-ends {img = img} records records-one (live_at img) l.within;
         node = λ q e. place-as (node_place img i);
         deltas = λ q e. take-length (record_places img i);
       }

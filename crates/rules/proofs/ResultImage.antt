@@ -7,7 +7,8 @@ use Rattle.wire.specs.Parse.{got}
 use Rattle.wire.specs.Lists.{Every}
 use Rattle.image.specs.Meaning.{Base, Fields, Record, Batch, Store, directory, file, symlink, special, pipe, character, block, socket, tombstone}
 use Rattle.image.specs.Fits.{FitsInode, Short, FieldsFits, NodeFits, RecordFits, MapFits, BatchFits, StoreFits, FitsFields, FitsRecord, FitsStore}
-use Rattle.image.specs.RoundTrip.{read_image, write_image, one-image}
+use Rattle.image.specs.RoundTrip.{read_image, write_image}
+use Rattle.image.proofs.RoundTrip.{one-image}
 use Rattle.rules.specs.Initial.{Initial, usual}
 use Rattle.rules.specs.Stacks.{layers}
 use Rattle.rules.specs.Calls.{Call}

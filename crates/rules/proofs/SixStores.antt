@@ -17,7 +17,8 @@ use Rattle.image.specs.RecordLayout.{layer_record}
 use Rattle.image.specs.StoreLayout.{batch_after, batches, store}
 use Rattle.image.specs.Meaning.{Node, Base, Store, directory, file}
 use Rattle.image.specs.Fits.{FitsStore}
-use Rattle.image.specs.RoundTrip.{write_image, one-image}
+use Rattle.image.specs.RoundTrip.{write_image}
+use Rattle.image.proofs.RoundTrip.{one-image}
 use Rattle.rules.specs.Initial.{usual}
 use Rattle.rules.specs.Fold.{same_kind, fold_record}
 use Rattle.rules.specs.Answers.{answer}

@@ -9,11 +9,11 @@ use lib.Dec.{ltb}
 use borrow.Author.Tests.{lt-ltb}
 use Rattle.wire.specs.declared.time.Time.{Time}
 use Rattle.wire.specs.Parse.{Parsed, fault, got}
-use Rattle.wire.specs.Codec.{encode-decode}
 use Rattle.image.specs.Meaning.{Text, Store}
 use Rattle.image.specs.Fits.{FitsStore}
 use Rattle.image.specs.StoreLayout.{store}
-use Rattle.image.specs.RoundTrip.{read_image, write_image, one-image}
+use Rattle.image.specs.RoundTrip.{read_image, write_image}
+use Rattle.image.proofs.RoundTrip.{one-image}
 use Rattle.rules.specs.Initial.{usual}
 use Rattle.rules.specs.Answers.{Answer, refused, answer, unless}
 use Rattle.rules.specs.Asks.{Ask, Reply}
@@ -28,6 +28,8 @@ use Rattle.rules.specs.WrongStores.{FoldsFirstOnly, PopsLater, InventsCounts}
 use Rattle.rules.proofs.ResultImage.{usual-fits}
 use Rattle.rules.proofs.Written.{answer-makes, answer-holds}
 use Rattle.rules.proofs.SixStores.{not-changes-away, not_none, not-copied, not-first-only, not_popped, not-invented, not-target, not-rows, not-limits}
+use Rattle.wire.proofs.Decoding.{encode-decode}
+use Rattle.image.proofs.OneForm.{store-one}
 
 -- ---- ours, but for some calls and reads
 
@@ -147,7 +149,7 @@ invented n img target new s t e d f b o =
 popped-fits : (img : List ℕ) (s : Store) (r : List ℕ) → read_image img ≡ got s r → FitsStore (set_batches [] s)
 unfolding store
 popped-fits img s r e =
-    let h = (encode-decode store img s r e).1 in
+    let h = (encode-decode store store-one img s r e).1 in
     record { base = h.base; batches = record { count = omega arith; each = tt; rising = tt }; live = h.live; next = h.next; ids = tt; bytes = h.bytes; operations = h.operations; request = h.request }
 
 later-popped : PopsLater later_popped

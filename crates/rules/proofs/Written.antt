@@ -11,7 +11,8 @@ use lib.Seq.{take-append_seam}
 use borrow.Author.Tests.{leb-true}
 use Rattle.wire.specs.Parse.{Parsed, fault, got}
 use Rattle.image.specs.Meaning.{Store}
-use Rattle.image.specs.RoundTrip.{read_image, write_image, read_fits}
+use Rattle.image.specs.RoundTrip.{read_image, write_image}
+use Rattle.image.proofs.RoundTrip.{read_fits}
 use Rattle.rules.specs.Initial.{Initial}
 use Rattle.rules.specs.Answers.{Answer, refused, answer, unless}
 use Rattle.rules.specs.Calls.{Call}

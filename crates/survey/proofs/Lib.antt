@@ -2,3 +2,4 @@
 pub mod Batches
 pub mod Stores
 pub mod Surveyed
+pub mod OneForm

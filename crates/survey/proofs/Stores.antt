@@ -21,7 +21,7 @@ use Rattle.wire.specs.Combinators.{◌then◌, seq, only}
 use Rattle.wire.specs.Number.{number_read, number_to}
 use Rattle.wire.specs.Orders.{by_number, cmp_n, says}
 use Rattle.wire.specs.Rows.{Under, Rising}
-use Rattle.wire.specs.Lists.{chain_read, row, after, is_less, all-rising}
+use Rattle.wire.specs.Lists.{chain_read, row, after, is_less}
 use Rattle.wire.specs.Reading.{run}
 use Rattle.image.specs.Meaning.{Layer, Batch}
 use Rattle.image.specs.FieldLayout.{inode, word}
@@ -41,6 +41,8 @@ use Rattle.survey.specs.declared.batch.InodeLayerStack.{InodeLayerStack}
 use Rattle.survey.specs.declared.batch.BatchesRead.{BatchesRead}
 use Rattle.image.proofs.Passing.{passed-made, ends-got, ends-fault, ends-made, ends-then}
 use Rattle.survey.proofs.Batches.{ends-from}
+use Rattle.wire.proofs.ListForms.{all-rising}
+use Rattle.survey.proofs.OneForm.{queue_rows-one}
 
 -- ---- batches are rows by id
 
@@ -158,7 +160,7 @@ batches-passed s = ap passed (batches-rows s) ∙ go (queue_rows.read s)
     go (got l r) = refl
 
 rows-rise : (s : List ℕ) {l : List (ℕ × BatchRest)} {r : List ℕ} → queue_rows.read s ≡ got l r → Rising by_number l
-rows-rise s {l} {r} e = (all-rising by_number inode batch_rest none l (queue_rows.forth s l r e).1.1.1).1.0
+rows-rise s {l} {r} e = (all-rising by_number inode batch_rest none l (queue_rows-one.forth s l r e).1.1.1).1.0
 
 module _ {img : List ℕ} where
   ends-batches : {at next : Cursor} → Ends img queue_rows.read at next → Ends img batches.read at next

@@ -29,6 +29,9 @@ use Rattle.image.specs.RoundTrip.{read_image}
 use Rattle.survey.specs.declared.store.Survey.{Survey}
 use Rattle.image.proofs.Holding.{Suffix, suffix-drop, suffix-rest, apart, list-holds}
 use Rattle.survey.proofs.Stores.{batches_of, batches-rows, rest_of}
+use Rattle.wire.proofs.NumberForms.{number_to-one}
+use Rattle.image.proofs.OneForm.{inode-one, node-one, layer_record-one, records-one}
+use Rattle.survey.proofs.OneForm.{batch_head-one}
 
 -- the first of two, and what the second is read from
 module _ {A B : Type 0} (c : Codec A) (d : A → Codec B) where
@@ -107,7 +110,7 @@ module _ (img : List ℕ) (i : ℕ) where
   record-holds : (s : List ℕ) {m : Layer} {r : List ℕ} → Suffix img s → records.read s ≡ got m r
       → Holds img layer_record.read (record_place (length img) i s) (get by_number i m)
   record-holds s {m} {r} w e =
-      let h = list-holds by_number inode layer_record img i (length img - length s) (omega arith) (rw w.is at e) in
+      let h = list-holds by_number inode layer_record img i inode-one layer_record-one (length img - length s) (omega arith) (rw w.is at e) in
       rw w.is h
 
   -- a batch: its head, and its records
@@ -137,8 +140,8 @@ module _ (img : List ℕ) (i : ℕ) where
       → AllHold img layer_record.read (batch_places (length img) i (suc n) s) (batch_records i (batch_of e ∷ bs))
   unfolding batch_places
   batch-holds n s e q bs w a ih =
-      let u = suffix-rest batch_head w a.headed in
-      let v = suffix-rest records u a.recorded in
+      let u = suffix-rest batch_head batch_head-one w a.headed in
+      let v = suffix-rest records records-one u a.recorded in
       rw (a.headed, a.recorded)
       (hold-more img layer_record.read (record_place (length img) i a.mid) (get by_number i (batch_of e).records) (batch_places (length img) i n q) (batch_records i bs)
       (record-holds a.mid u a.recorded) (ih v))
@@ -193,7 +196,7 @@ queue-holds : (img : List ℕ) (i n : ℕ) {bs : List Batch} {r : List ℕ} → 
 queue-holds img i n {bs} {r} h e =
     let m = made-inv batches_of (queue_rows.read (drop n img)) (sym (batches-rows (drop n img)) ∙ e) in
     let c = bind_inv (number_read 16 (drop n img)) (λ k t. rows_from by_number inode batch_rest k none t) m.1 in
-    let w = suffix-rest (number_to 16 refl) (suffix-drop img n h) c.2 in
+    let w = suffix-rest (number_to 16 refl) (number_to-one 16 refl) (suffix-drop img n h) c.2 in
     let q : queue_places img i (At n) ≡ batch_places (length img) i c.0 c.1 =
     ap (λ (o : Parsed ℕ). or_none (as_option o) (λ p. batch_places (length img) i p.0 p.1)) c.2 in
     subst (λ (l : List ℕ). AllHold img layer_record.read l (batch_records i bs)) (sym q)
@@ -219,9 +222,9 @@ survey-holds {img} {i} {r} {s} w e =
     let l = ends-place r.live (rw b.1 at w.batches) eb in
     let el : records.read (drop l.0 img) ≡ got s.live x.r3 = rw l.2 x.at_live in
     record {
-      node_held = rw (w.node q.0 q.1) (list-holds by_number inode node img i 0 (omega arith) x.at_base);
+      node_held = rw (w.node q.0 q.1) (list-holds by_number inode node img i inode-one node-one 0 (omega arith) x.at_base);
       records_held =
           rw (w.deltas q.0 q.1, b.1, l.1)
           (hold-last img layer_record.read (queue_places img i (At b.0)) (batch_records i s.batches) (place_in by_number inode layer_record img i (At l.0))
-          (get by_number i s.live) (queue-holds img i b.0 b.3 eb) (list-holds by_number inode layer_record img i l.0 l.3 el));
+          (get by_number i s.live) (queue-holds img i b.0 b.3 eb) (list-holds by_number inode layer_record img i inode-one layer_record-one l.0 l.3 el));
     }

@@ -65,6 +65,7 @@ use Rattle.change.proofs.Finishing.{not-false, changes-refused, changes-made}
 use Rattle.change.proofs.Cutting.{get-here}
 use Rattle.overlay.proofs.Living.{read_whole, read-longer, tombstone-bytes, is_cut, replaced-image, unchanged-image}
 use Rattle.update.proofs.Onto.{changed, delta-bytes}
+use Rattle.image.proofs.OneForm.{layer_record-one}
 
 -- ---- no live record
 
@@ -136,7 +137,7 @@ module _ {img : List ℕ} {p : Sections} {s : Store} (w : Stands img p s) {i : �
         let z = o.stays cut.after t in
         new-bytes N.Tombstone (some tombstone) tombstone (q ∙ ap (replaced_of cut i) z) e refl (ap (λ (x : List ℕ). number_bytes i ++ x) tombstone-bytes)
     record-bytes (delta d) e k t =
-        let f : FitsRecord (delta d) = (layer_record.forth (drop at img) (delta d) k.0 k.1).1 in
+        let f : FitsRecord (delta d) = (layer_record-one.forth (drop at img) (delta d) k.0 k.1).1 in
         let m = o.merges cut.after d f t in
         new-bytes (N.Updated m.new) (some (delta d)) (merged_delta given a d) (q ∙ ap (replaced_of cut i) m.is) e refl
         (ap (λ (x : List ℕ). number_bytes i ++ x) (m.writes given end g))

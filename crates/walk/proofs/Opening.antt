@@ -27,7 +27,7 @@ use Rattle.image.specs.RecordLayout.{layer_record, records}
 use Rattle.image.specs.StoreLayout.{batches}
 use Rattle.survey.specs.Gathering.{batch_head}
 use Rattle.passes.specs.Held.{HeldUnder, held}
-use Rattle.image.specs.RoundTrip.{read_fits}
+use Rattle.image.proofs.RoundTrip.{read_fits}
 use Rattle.passes.specs.declared.inode.Held.{Held}
 use Rattle.passes.specs.declared.inode.Held.TheVariants as H
 use Rattle.rules.specs.Stacks.{with_live, layers}

@@ -5,5 +5,9 @@ pub mod Comparing
 pub mod Signs
 pub mod Puts
 pub mod RoundTrip
+pub mod OneForm
+pub mod NumberForms
+pub mod ListForms
+pub mod Decoding
 mod Compared
 mod Examples

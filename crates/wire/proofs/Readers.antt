@@ -12,10 +12,11 @@ use lib.Seq.{drop-drop, take_all, take-nil}
 use Rattle.wire.specs.Parse.{Parsed, fault, got, bind, never-got}
 use Rattle.wire.specs.Codec.{Bytes}
 use Rattle.wire.specs.Combinators.{all-bytes}
-use Rattle.wire.specs.Number.{edge, number_read, number-forth}
+use Rattle.wire.specs.Number.{edge, number_read}
 use Rattle.wire.specs.Text.{length_read, text-read}
 use Rattle.wire.specs.Time.{unzigzag, time, epoch}
 use Rattle.wire.specs.Reading.{Reads, Answers, AnswersPart, run, give, cursor_in, part, no_text}
+use Rattle.wire.proofs.NumberForms.{number-forth}
 use Rattle.wire.specs.declared.cursor.Fault.{Fault}
 use Rattle.wire.specs.declared.cursor.Fault.TheVariants.{Ended, Malformed}
 use Rattle.wire.specs.declared.cursor.Cursor.{Cursor}

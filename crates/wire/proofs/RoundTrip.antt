@@ -6,7 +6,7 @@ use Prim.Native.Nat.{ℕ, ◌+◌, ◌-◌, ◌≤◌}
 use native.Mathlib.Omega.{arith}
 use lib.ListN.{length, take, drop, length-append, length-drop}
 use lib.Seq.{take-append_seam, length-take-le, drop_at}
-use Rattle.wire.specs.Codec.{Codec}
+use Rattle.wire.specs.Codec.{Codec, OneForm}
 use Rattle.wire.specs.Reading.{Reads, part}
 use Rattle.wire.specs.Put.{Put}
 use Rattle.wire.specs.declared.cursor.Cursor.TheVariants.{At}
@@ -26,8 +26,8 @@ module _ {A : Type 0} (c : Codec A) (a : A) where
       record { same = rw (here, after) (c.back a (drop next old) f); within = omega (arith, put-length p) }
 
   -- What is read is written as the same bytes, so each value has one form.
-  pub read-written : {img : List ℕ} {at next : ℕ} → Reads img c.read (At at) a (At next) → at ≤ length img → part img at (next - at) ≡ c.write a
-  read-written {img} {at} {next} h k =
-      let f : drop at img ≡ c.write a ++ drop next img = (c.forth (drop at img) a (drop next img) h.same).0 in
+  pub read-written : OneForm c → {img : List ℕ} {at next : ℕ} → Reads img c.read (At at) a (At next) → at ≤ length img → part img at (next - at) ≡ c.write a
+  read-written one {img} {at} {next} h k =
+      let f : drop at img ≡ c.write a ++ drop next img = (one.forth (drop at img) a (drop next img) h.same).0 in
       let n : next - at ≡ length (c.write a) = omega (arith, h.within, simp (length-append, length-drop) at (ap length f)) in
       rw (n, f) (take-append_seam (c.write a) (drop next img))

@@ -1,7 +1,7 @@
 -- A format: how it is read, how it is written, what fits it, and the laws of the round trip.
 use Rattle.std.specs.Prelude.{ℕ, ◌<◌, ◌≡◌}
-use Rattle.std.proofs.Math.Path.{refl, ap}
-use Rattle.std.proofs.Common.{sym, ◌∙◌, subst}
+use Rattle.std.proofs.Math.Path.{refl}
+use Rattle.std.proofs.Common.{sym, ◌∙◌}
 use mathlib.Core.List.{List, [], ◌∷◌, ◌++◌, append-nil}
 use Rattle.wire.specs.Parse.{Parsed, fault, got, never-got, Extends}
 use Rattle.wire.specs.declared.cursor.Fault.TheVariants.{Ended, Malformed}
@@ -11,16 +11,18 @@ abbrev pub Bytes : List ℕ → Type 0
 Bytes [] = Unit {0}
 Bytes (b ∷ s) = (b < 256) × Bytes s
 
--- `back`: what is written is read back. `forth`: what is read is written as the same bytes. `steady`: more bytes behind alter only what
--- had ended. `plain`: what is written are bytes.
+-- `back`: what is written is read back. `steady`: more bytes behind alter only what had ended. `plain`: what is written are bytes.
 pub record Codec (A : Type 0) : Type 1 where
   pub read : List ℕ → Parsed A
   pub write : A → List ℕ
   pub Fits : A → Type 0
   pub back : (a : A) (r : List ℕ) → Fits a → read (write a ++ r) ≡ got a r
-  pub forth : (s : List ℕ) (a : A) (r : List ℕ) → read s ≡ got a r → (s ≡ write a ++ r) × Fits a
   pub steady : (s t : List ℕ) → Extends t (read s) (read (s ++ t))
   pub plain : (a : A) → Fits a → Bytes (write a)
+
+-- `forth`: what is read is written as the same bytes, and fits. So each value has one form.
+pub record OneForm {A : Type 0} (c : Codec A) : Type 0 where
+  pub forth : (s : List ℕ) (a : A) (r : List ℕ) → c.read s ≡ got a r → (s ≡ c.write a ++ r) × c.Fits a
 
 pub plain-append : (s t : List ℕ) → Bytes s → Bytes t → Bytes (s ++ t)
 plain-append [] t h k = k
@@ -49,26 +51,3 @@ whole (got a (b ∷ r)) = fault Malformed
 module _ {A : Type 0} (c : Codec A) where
   unfoldable pub decode : List ℕ → Parsed A
   decode s = whole (c.read s)
-
-  -- what is written is read back
-  pub decode-encode : (a : A) → c.Fits a → decode (c.write a) ≡ got a []
-  unfolding decode
-  decode-encode a h = ap whole (ap c.read (sym (append-nil (c.write a))) ∙ c.back a [] h)
-
-  -- what is read is what is written of it, and fits: so no two images mean the same
-  encoded : (s : List ℕ) (p : Parsed A) (a : A) (r : List ℕ) → c.read s ≡ p → whole p ≡ got a r → (s ≡ c.write a) × c.Fits a
-  encoded s (fault f) a r e d = never-got d
-  encoded s (got b []) a r e d =
-      let i : b ≡ a = cc in
-      let f = c.forth s b [] e in
-      subst (λ (x : A). (s ≡ c.write x) × c.Fits x) i (f.0 ∙ append-nil (c.write b), f.1)
-  encoded s (got b (x ∷ q)) a r e d = never-got d
-
-  pub encode-decode : (s : List ℕ) (a : A) (r : List ℕ) → decode s ≡ got a r → (s ≡ c.write a) × c.Fits a
-  unfolding decode
-  encode-decode s a r e = encoded s (c.read s) a r refl e
-
-  -- an image that is cut off has ended
-  pub decode-cut : (a : A) (s t : List ℕ) → c.Fits a → s ++ t ≡ c.write a → (t ≡ [] → ⊥) → decode s ≡ fault Ended
-  unfolding decode
-  decode-cut a s t h e n = rw (prefix-ended c a t s h e n)

@@ -1,21 +1,18 @@
 -- Formats made of formats. Each carries the laws of the round trip.
 use Prim.Native.Nat.{ℕ, zero, suc, ◌≤◌}
 use Rattle.std.specs.Prelude.{◌≡◌, Bool, true, false, cond, leb, ltb, length, take, drop}
-use Rattle.std.proofs.Math.Path.{refl, ap, subst}
-use Rattle.std.proofs.Common.{sym, ◌∙◌, arith, length-append, take-append-drop, length-take-le, take_at, drop_at, leb-true, le-leb, lt-ltb, ltb-true}
+use Rattle.std.proofs.Math.Path.{refl}
+use Rattle.std.proofs.Common.{arith, length-append, take_at, drop_at, leb-true, le-leb, lt-ltb}
 use mathlib.Core.List.{List, [], ◌∷◌, ◌++◌, append_assoc}
 use Rattle.std.proofs.Math.Option.{Option, none, some}
 use Rattle.std.proofs.lemmas.List.{take-append-le, drop-append-le}
-use Rattle.wire.specs.Parse.{Parsed, fault, got, bind, check, never-got, bind_inv, check_inv, Extends, bind-extends, check-extends}
+use Rattle.wire.specs.Parse.{Parsed, fault, got, bind, check, Extends, bind-extends, check-extends}
 use Rattle.wire.specs.Codec.{Codec, Bytes, plain-append}
 use Rattle.wire.specs.declared.cursor.Fault.TheVariants.{Ended, Malformed}
 
 -- nothing
-pub nothing-forth : (s : List ℕ) (a : Unit {0}) (r : List ℕ) → got tt s ≡ got a r → (s ≡ [] ++ r) × Unit {0}
-nothing-forth s a r e = (cc, tt)
-
 abbrev pub nothing : Codec (Unit {0})
-nothing = record { read = λ s. got tt s; write = λ a. []; Fits = λ a. Unit {0}; back = λ a r h. refl; forth = nothing-forth; steady = λ s t. refl; plain = λ a h. tt }
+nothing = record { read = λ s. got tt s; write = λ a. []; Fits = λ a. Unit {0}; back = λ a r h. refl; steady = λ s t. refl; plain = λ a h. tt }
 
 -- ---- n bytes as they stand
 
@@ -27,30 +24,12 @@ pub all-bytes : (s : List ℕ) → Bytes s → all_bytes s ≡ true
 all-bytes [] h = refl
 all-bytes (b ∷ s) h = rw (lt-ltb b 256 h.0) (all-bytes s h.1)
 
-are-bytes : (s : List ℕ) → all_bytes s ≡ true → Bytes s
-are-bytes [] e = tt
-are-bytes (b ∷ s) e = go (ltb b 256) refl e (are-bytes s)
-  where
-    go : (t : Bool) → ltb b 256 ≡ t → cond t (all_bytes s) false ≡ true → (all_bytes s ≡ true → Bytes s) → Bytes (b ∷ s)
-    go true h e ih = (ltb-true b 256 h, ih e)
-    go false h e ih = absurd (let z : ◌≡◌ {A = ℕ} 0 1 = cc in omega arith)
-
 abbrev pub bytes_read : ℕ → List ℕ → Parsed (List ℕ)
 bytes_read n s = check Ended (leb n (length s)) (check Malformed (all_bytes (take n s)) (got (take n s) (drop n s)))
 
 pub bytes_back : (n : ℕ) (a r : List ℕ) → (length a ≡ n) × Bytes a → bytes_read n (a ++ r) ≡ got a r
 bytes_back n a r h =
     rw (le-leb n (length (a ++ r)) (omega (arith, length-append a r)), take_at a r n h.0, drop_at a r n h.0, all-bytes a h.1)
-
-pub bytes-forth : (n : ℕ) (s a r : List ℕ) → bytes_read n s ≡ got a r → (s ≡ a ++ r) × ((length a ≡ n) × Bytes a)
-bytes-forth n s a r e =
-    let i = check_inv Ended (leb n (length s)) (check Malformed (all_bytes (take n s)) (got (take n s) (drop n s))) e in
-    let j = check_inv Malformed (all_bytes (take n s)) (got (take n s) (drop n s)) i.1 in
-    let h : n ≤ length s = leb-true n (length s) i.0 in
-    let e1 : got (take n s) (drop n s) ≡ got a r = j.1 in
-    let ea : take n s ≡ a = cc in
-    let er : drop n s ≡ r = cc in
-    (rw (← ea, ← er) (sym (take-append-drop n s)), (rw (← ea) (length-take-le n s h), rw (← ea) (are-bytes (take n s) j.0)))
 
 pub bytes-steady : (n : ℕ) (s t : List ℕ) → Extends t (bytes_read n s) (bytes_read n (s ++ t))
 bytes-steady n s t = go (leb n (length s)) refl
@@ -69,7 +48,6 @@ bytes n = record {
   write = λ a. a;
   Fits = λ a. (length a ≡ n) × Bytes a;
   back = bytes_back n;
-  forth = bytes-forth n;
   steady = bytes-steady n;
   plain = λ a h. h.1;
 }
@@ -84,19 +62,6 @@ module _ {A : Type 0} {B : A → Type 0} (c : Codec A) (d : (a : A) → Codec (B
   seq-back x r h =
       rw (append_assoc, c.back x.0 ((d x.0).write x.1 ++ r) h.0, (d x.0).back x.1 r h.1)
 
-  pub seq-forth : (s : List ℕ) (x : (a : A) × B a) (r : List ℕ) → seq_read s ≡ got x r
-      → (s ≡ (c.write x.0 ++ (d x.0).write x.1) ++ r) × (c.Fits x.0 × (d x.0).Fits x.1)
-  seq-forth s x r e =
-      let i = bind_inv (c.read s) (λ a t. bind ((d a).read t) (λ b q. got (a, b) q)) e in
-      let j = bind_inv ((d i.0).read i.1) (λ b q. got (i.0, b) q) i.3 in
-      let e1 : ◌≡◌ {A = Parsed ((a : A) × B a)} (got (i.0, j.0) j.1) (got x r) = j.3 in
-      let ex : ◌≡◌ {A = (a : A) × B a} (i.0, j.0) x = cc in
-      let er : j.1 ≡ r = cc in
-      let f = c.forth s i.0 i.1 i.2 in
-      let g = (d i.0).forth i.1 j.0 j.1 j.2 in
-      subst (λ (y : (a : A) × B a). (s ≡ (c.write y.0 ++ (d y.0).write y.1) ++ r) × (c.Fits y.0 × (d y.0).Fits y.1)) ex
-      (rw append_assoc (f.0 ∙ ap (λ (l : List ℕ). c.write i.0 ++ l) (g.0 ∙ ap (λ (l : List ℕ). (d i.0).write j.0 ++ l) er)), (f.1, g.1))
-
   pub seq-steady : (s t : List ℕ) → Extends t (seq_read s) (seq_read (s ++ t))
   seq-steady s t =
       bind-extends t (c.read s) (c.read (s ++ t)) _ (c.steady s t) (λ a r.
@@ -108,7 +73,6 @@ module _ {A : Type 0} {B : A → Type 0} (c : Codec A) (d : (a : A) → Codec (B
     write = λ x. c.write x.0 ++ (d x.0).write x.1;
     Fits = λ x. c.Fits x.0 × (d x.0).Fits x.1;
     back = seq-back;
-    forth = seq-forth;
     steady = seq-steady;
     plain = λ x h. plain-append (c.write x.0) ((d x.0).write x.1) (c.plain x.0 h.0) ((d x.0).plain x.1 h.1);
   }
@@ -126,21 +90,11 @@ module _ {A B : Type 0} (to : A → B) (from : B → A) (to-from : (b : B) → t
   pub via-back : (b : B) (r : List ℕ) → c.Fits (from b) → via_read (c.write (from b) ++ r) ≡ got b r
   via-back b r h = rw (c.back (from b) r h, to-from b)
 
-  pub via-forth : (s : List ℕ) (b : B) (r : List ℕ) → via_read s ≡ got b r → (s ≡ c.write (from b) ++ r) × c.Fits (from b)
-  via-forth s b r e =
-      let i = bind_inv (c.read s) (λ a t. got (to a) t) e in
-      let e1 : got (to i.0) i.1 ≡ got b r = i.3 in
-      let eb : to i.0 ≡ b = cc in
-      let er : i.1 ≡ r = cc in
-      let f = c.forth s i.0 i.1 i.2 in
-      let ea : i.0 ≡ from b = sym (from-to i.0 f.1) ∙ ap from eb in
-      subst (λ (a : A). (s ≡ c.write a ++ r) × c.Fits a) ea (f.0 ∙ ap (λ (l : List ℕ). c.write i.0 ++ l) er, f.1)
-
   pub via-steady : (s t : List ℕ) → Extends t (via_read s) (via_read (s ++ t))
   via-steady s t = bind-extends t (c.read s) (c.read (s ++ t)) _ (c.steady s t) (λ a r. refl)
 
   abbrev pub via : Codec B
-  via = record { read = via_read; write = λ b. c.write (from b); Fits = λ b. c.Fits (from b); back = via-back; forth = via-forth; steady = via-steady; plain = λ b h. c.plain (from b) h }
+  via = record { read = via_read; write = λ b. c.write (from b); Fits = λ b. c.Fits (from b); back = via-back; steady = via-steady; plain = λ b h. c.plain (from b) h }
 
 -- the same format, what fits it said in other words
 abbrev pub restated : {A : Type 0} (P : A → Type 0) (c : Codec A) → ((a : A) → P a → c.Fits a) → ((a : A) → c.Fits a → P a) → Codec A
@@ -149,7 +103,6 @@ restated P c to from = record {
   write = c.write;
   Fits = P;
   back = λ a r h. c.back a r (to a h);
-  forth = λ s a r e. let f = c.forth s a r e in (f.0, from a f.1);
   steady = c.steady;
   plain = λ a h. c.plain a (to a h);
 }
@@ -162,22 +115,11 @@ module _ {A : Type 0} (t : A → Bool) (c : Codec A) where
   pub only-back : (a : A) (r : List ℕ) → c.Fits a × (t a ≡ true) → only_read (c.write a ++ r) ≡ got a r
   only-back a r h = rw (c.back a r h.0, h.1)
 
-  pub only-forth : (s : List ℕ) (a : A) (r : List ℕ) → only_read s ≡ got a r → (s ≡ c.write a ++ r) × (c.Fits a × (t a ≡ true))
-  only-forth s a r e =
-      let i = bind_inv (c.read s) (λ a r. check Malformed (t a) (got a r)) e in
-      let j = check_inv Malformed (t i.0) (got i.0 i.1) i.3 in
-      let e1 : got i.0 i.1 ≡ got a r = j.1 in
-      let ea : i.0 ≡ a = cc in
-      let er : i.1 ≡ r = cc in
-      let f = c.forth s i.0 i.1 i.2 in
-      subst (λ (y : A). (s ≡ c.write y ++ r) × (c.Fits y × (t y ≡ true))) ea
-      (f.0 ∙ ap (λ (l : List ℕ). c.write i.0 ++ l) er, (f.1, j.0))
-
   pub only-steady : (s t : List ℕ) → Extends t (only_read s) (only_read (s ++ t))
   only-steady s u = bind-extends u (c.read s) (c.read (s ++ u)) _ (c.steady s u) (λ a r. check-extends u (t a) (got a r) (got a (r ++ u)) refl)
 
   abbrev pub only : Codec A
-  only = record { read = only_read; write = c.write; Fits = λ a. c.Fits a × (t a ≡ true); back = only-back; forth = only-forth; steady = only-steady; plain = λ a h. c.plain a h.0 }
+  only = record { read = only_read; write = c.write; Fits = λ a. c.Fits a × (t a ≡ true); back = only-back; steady = only-steady; plain = λ a h. c.plain a h.0 }
 
 -- a tag, and then what the tag says: a count and a list, a code and a variant, a mask and the fields that are there
 module _ {A T : Type 0} (c : Codec T) (tag : A → T) (d : T → Codec A) (agrees : (t : T) (a : A) → (d t).Fits a → tag a ≡ t) where
@@ -186,15 +128,6 @@ module _ {A T : Type 0} (c : Codec T) (tag : A → T) (d : T → Codec A) (agree
 
   pub tagged-back : (a : A) (r : List ℕ) → c.Fits (tag a) × (d (tag a)).Fits a → tagged_read ((c.write (tag a) ++ (d (tag a)).write a) ++ r) ≡ got a r
   tagged-back a r h = rw (append_assoc, c.back (tag a) ((d (tag a)).write a ++ r) h.0, (d (tag a)).back a r h.1)
-
-  pub tagged-forth : (s : List ℕ) (a : A) (r : List ℕ) → tagged_read s ≡ got a r
-      → (s ≡ (c.write (tag a) ++ (d (tag a)).write a) ++ r) × (c.Fits (tag a) × (d (tag a)).Fits a)
-  tagged-forth s a r e =
-      let i = bind_inv (c.read s) (λ t r. (d t).read r) e in
-      let f = c.forth s i.0 i.1 i.2 in
-      let g = (d i.0).forth i.1 a r i.3 in
-      subst (λ (t : T). (s ≡ (c.write t ++ (d t).write a) ++ r) × (c.Fits t × (d t).Fits a)) (sym (agrees i.0 a g.1))
-      (rw append_assoc (f.0 ∙ ap (λ (l : List ℕ). c.write i.0 ++ l) g.0), (f.1, g.1))
 
   pub tagged-steady : (s t : List ℕ) → Extends t (tagged_read s) (tagged_read (s ++ t))
   tagged-steady s t = bind-extends t (c.read s) (c.read (s ++ t)) _ (c.steady s t) (λ a r. (d a).steady r t)
@@ -205,7 +138,6 @@ module _ {A T : Type 0} (c : Codec T) (tag : A → T) (d : T → Codec A) (agree
     write = λ a. c.write (tag a) ++ (d (tag a)).write a;
     Fits = λ a. c.Fits (tag a) × (d (tag a)).Fits a;
     back = tagged-back;
-    forth = tagged-forth;
     steady = tagged-steady;
     plain = λ a h. plain-append (c.write (tag a)) ((d (tag a)).write a) (c.plain (tag a) h.0) ((d (tag a)).plain a h.1);
   }
@@ -237,21 +169,6 @@ module _ {A : Type 0} (c : Codec A) where
   pub opt-back : (b : ℕ) (o : Option A) (r : List ℕ) → (count o ≡ b) × opt_fits o → opt-read c.read b (opt_write o ++ r) ≡ got o r
   opt-back b o r h = rw (← h.0) (present o r h.1)
 
-  pub opt-forth : (b : ℕ) (s : List ℕ) (o : Option A) (r : List ℕ) → opt-read c.read b s ≡ got o r → (s ≡ opt_write o ++ r) × ((count o ≡ b) × opt_fits o)
-  unfolding opt-read
-  opt-forth zero s o r e =
-      let eo : none ≡ o = cc in
-      let er : s ≡ r = cc in
-      subst (λ (y : Option A). (s ≡ opt_write y ++ r) × ((count y ≡ 0) × opt_fits y)) eo (er, (refl, tt))
-  opt-forth (suc zero) s o r e =
-      let i = bind_inv (c.read s) (λ a r. got (some a) r) e in
-      let e1 : got (some i.0) i.1 ≡ got o r = i.3 in
-      let eo : some i.0 ≡ o = cc in
-      let er : i.1 ≡ r = cc in
-      let f = c.forth s i.0 i.1 i.2 in
-      subst (λ (y : Option A). (s ≡ opt_write y ++ r) × ((count y ≡ 1) × opt_fits y)) eo (f.0 ∙ ap (λ (l : List ℕ). c.write i.0 ++ l) er, (refl, f.1))
-  opt-forth (suc (suc n)) s o r e = never-got e
-
   pub opt-steady : (b : ℕ) (s t : List ℕ) → Extends t (opt-read c.read b s) (opt-read c.read b (s ++ t))
   unfolding opt-read
   opt-steady zero s t = refl
@@ -268,7 +185,6 @@ module _ {A : Type 0} (c : Codec A) where
     write = opt_write;
     Fits = λ o. (count o ≡ b) × opt_fits o;
     back = opt-back b;
-    forth = opt-forth b;
     steady = opt-steady b;
     plain = λ o h. opt-plain o h.1;
   }

@@ -1,18 +1,16 @@
 -- Document 01: "Every list has its count first; rising means strictly, names by bytes, so nothing stands twice."
 -- "Counts below 2^32." A rising list is a map; each key is judged as soon as it is read, before what stands under it.
 use Rattle.std.specs.Prelude.{ℕ, zero, suc, ◌≤◌, ◌≡◌, refl, Bool, true, false, leb, length}
-use Rattle.std.proofs.Math.Path.{sym, ap, subst}
-use Rattle.std.proofs.Common.{◌∙◌, arith}
+use Rattle.std.proofs.Common.{arith}
 use mathlib.Core.List.{List, [], ◌∷◌, ◌++◌, append_assoc}
 use Rattle.std.proofs.Math.Option.{Option, none, some}
-use Rattle.wire.specs.Parse.{Parsed, fault, got, bind, never-got, bind_inv, Extends, bind-extends}
+use Rattle.wire.specs.Parse.{Parsed, fault, got, bind, Extends, bind-extends}
 use Rattle.wire.specs.Codec.{Codec, Bytes, plain-append}
 use Rattle.wire.specs.Combinators.{◌then◌, only, tagged}
 use Rattle.wire.specs.Number.{edge, number_to}
 use Rattle.wire.specs.Order.{Order}
 use Rattle.wire.specs.Rows.{Under, Rising}
-use Rattle.wire.specs.RowLaws.{under-below}
-use Rattle.wire.specs.Maps.{Map, as_map, as_map-rows, rows-as_map}
+use Rattle.wire.specs.Maps.{Map, as_map, as_map-rows}
 use Rattle.wire.specs.declared.cursor.Fault.TheVariants.{Malformed}
 use Rattle.wire.specs.declared.order.Ordering.{Ordering}
 use Rattle.wire.specs.declared.order.Ordering.TheVariants.{Less, Equal, Greater}
@@ -39,25 +37,6 @@ module _ {A S : Type 0} (c : S → Codec A) (next : S → A → S) where
       let z : suc (length l) ≡ suc n = h.0 in
       rw (append_assoc, (c st).back a (chain_write (next st a) l ++ r) h.1.0, chain_back n (next st a) l r (omega arith, h.1.1))
 
-  pub chain-forth : (n : ℕ) (st : S) (s : List ℕ) (l : List A) (r : List ℕ) → chain_read n st s ≡ got l r
-      → (s ≡ chain_write st l ++ r) × ((length l ≡ n) × All st l)
-  chain-forth zero st s l r e =
-      let el : [] ≡ l = cc in
-      let er : s ≡ r = cc in
-      subst (λ (y : List A). (s ≡ chain_write st y ++ r) × ((length y ≡ 0) × All st y)) el (er, (refl, tt))
-  chain-forth (suc n) st s l r e =
-      let i = bind_inv ((c st).read s) (λ a r. bind (chain_read n (next st a) r) (λ l q. got (a ∷ l) q)) e in
-      let j = bind_inv (chain_read n (next st i.0) i.1) (λ l q. got (i.0 ∷ l) q) i.3 in
-      let e1 : got (i.0 ∷ j.0) j.1 ≡ got l r = j.3 in
-      let el : i.0 ∷ j.0 ≡ l = cc in
-      let er : j.1 ≡ r = cc in
-      let f = (c st).forth s i.0 i.1 i.2 in
-      let g = chain-forth n (next st i.0) i.1 j.0 j.1 j.2 in
-      subst (λ (y : List A). (s ≡ chain_write st y ++ r) × ((length y ≡ suc n) × All st y)) el (
-        rw append_assoc (f.0 ∙ ap (λ (l : List ℕ). (c st).write i.0 ++ l) (g.0 ∙ ap (λ (l : List ℕ). chain_write (next st i.0) j.0 ++ l) er)),
-        (ap suc g.1.0, (f.1, g.1.1)),
-      )
-
   pub chain-steady : (n : ℕ) (st : S) (s t : List ℕ) → Extends t (chain_read n st s) (chain_read n st (s ++ t))
   chain-steady zero st s t = refl
   chain-steady (suc n) st s t =
@@ -74,7 +53,6 @@ module _ {A S : Type 0} (c : S → Codec A) (next : S → A → S) where
     write = chain_write st;
     Fits = λ l. (length l ≡ n) × All st l;
     back = chain_back n st;
-    forth = chain-forth n st;
     steady = chain-steady n st;
     plain = λ l h. chain-plain st l h.1;
   }
@@ -103,11 +81,6 @@ is_less Less = true
 is_less Equal = false
 is_less Greater = false
 
-pub is-less : (o : Ordering) → is_less o ≡ true → o ≡ Less
-is-less Less h = refl
-is-less Equal h = cc
-is-less Greater h = cc
-
 -- k is after the key before it, if there is one
 abbrev pub after : {K : Type 0} → Order K → Option K → K → Bool
 after O none k = true
@@ -129,17 +102,6 @@ module _ {K A : Type 0} (O : Order K) (key : Codec K) (value : Codec A) where
   abbrev pub Above : Option K → List (K × A) → Type 0
   Above none l = Unit {0}
   Above (some p) l = Under O p l
-
-  lift-above : (prev : Option K) (e : K × A) (l : List (K × A)) → after O prev e.0 ≡ true → Under O e.0 l → Above prev (e ∷ l)
-  lift-above none e l h u = tt
-  lift-above (some p) e l h u = let d = is-less (O.cmp p e.0) h in (d, under-below O p e.0 l d u)
-
-  pub all-rising : (prev : Option K) (l : List (K × A)) → All row onto prev l → Above prev l × (Rising O l × Every FitsRow l)
-  all-rising none [] h = (tt, (tt, tt))
-  all-rising (some p) [] h = (tt, (tt, tt))
-  all-rising prev (e ∷ l) h =
-      let i = all-rising (some e.0) l h.1 in
-      (lift-above prev e l h.0.0.1 i.0, ((i.0, i.1.0), ((h.0.0.0, h.0.1), i.1.1)))
 
   above-after : (prev : Option K) (e : K × A) (l : List (K × A)) → Above prev (e ∷ l) → after O prev e.0 ≡ true
   above-after none e l u = refl
@@ -173,20 +135,6 @@ module _ {K A : Type 0} (O : Order K) (key : Codec K) (value : Codec A) where
     unfolding rising-read
     rising-back m r h = rw (rows.back m.rows r (rows_fit m h), as_map-rows O m)
 
-    mapped-inv : (o : Option (Map O A)) (q : List ℕ) {m : Map O A} {r : List ℕ} → mapped o q ≡ got m r → (o ≡ some m) × (q ≡ r)
-    mapped-inv none q e = never-got e
-    mapped-inv (some n) q e = (cc, cc)
-
-    pub rising-forth : (s : List ℕ) (m : Map O A) (r : List ℕ) → rising-read s ≡ got m r → (s ≡ rows.write m.rows ++ r) × FitsMap m
-    unfolding rising-read
-    rising-forth s m r e =
-        let i = bind_inv (rows.read s) (λ l r. mapped (as_map O l) r) e in
-        let j = mapped-inv (as_map O i.0) i.1 i.3 in
-        let f = rows.forth s i.0 i.1 i.2 in
-        let p : i.0 ≡ m.rows = sym (rows-as_map O i.0 m j.0) in
-        subst (λ (l : List (K × A)). (s ≡ rows.write l ++ r) × ((length l ≤ most) × Every FitsRow l)) p
-        (f.0 ∙ ap (λ (q : List ℕ). rows.write i.0 ++ q) j.1, (f.1.0, (all-rising none i.0 f.1.1.1).1.1))
-
     mapped-extends : (t : List ℕ) (o : Option (Map O A)) (r : List ℕ) → Extends t (mapped o r) (mapped o (r ++ t))
     mapped-extends t none r = refl
     mapped-extends t (some m) r = refl
@@ -201,7 +149,6 @@ module _ {K A : Type 0} (O : Order K) (key : Codec K) (value : Codec A) where
       write = λ m. rows.write m.rows;
       Fits = FitsMap;
       back = rising-back;
-      forth = rising-forth;
       steady = rising-steady;
       plain = λ m h. rows.plain m.rows (rows_fit m h);
     }

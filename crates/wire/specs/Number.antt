@@ -2,7 +2,7 @@
 -- Document 02, T-09: a number is judged when it is complete, and one whose tenth byte isn't its last is badly formed.
 use Rattle.std.specs.Prelude.{◌≡◌, refl, ◌⊎◌, Bool, true, false, cond, List, [], ◌∷◌, ◌++◌, ℕ, zero, suc, ◌+◌, ◌-◌, ◌*◌, ◌/◌, ◌%◌, ◌^◌, ◌≤◌, ◌<◌, ltb, leb, length}
 use Rattle.std.proofs.Common.{sym, ap, ◌∙◌, inl, inr, ⊎_elim, div-lt_iff_lt-mul, pow-suc, arith, lt-ltb, le-ltb, le-leb, ltb-true, ltb-false, leb-true}
-use Rattle.wire.specs.Parse.{Parsed, fault, got, bind, check, never-got, bind_inv, check_inv, Extends, bind-extends, check-extends}
+use Rattle.wire.specs.Parse.{Parsed, fault, got, bind, check, Extends, bind-extends, check-extends}
 use Rattle.wire.specs.Codec.{Codec, Bytes}
 use Rattle.wire.specs.Combinators.{via, restated, only}
 use Rattle.wire.specs.declared.cursor.Fault.TheVariants.{Ended, Malformed}
@@ -85,6 +85,7 @@ number-one n = ⊎_elim (λ l. rw (number_small n l) (omega arith)) (λ l. rw (n
 
 -- ---- what was written reads back
 
+-- That a number which follows others is not 0 is of no use here: the list of `simp` passes `leb 0` too.
 groups-back : (k n : ℕ) (r : List ℕ) → n < 128 ^ suc k → groups-read (number_bytes n ++ r) k ≡ got n r
 unfolding groups-read
 groups-back zero n r h = let l : n < 128 = omega arith in rw (number_small n l) (simp (lt-ltb n 128 l))
@@ -92,7 +93,7 @@ groups-back (suc k) n r h =
     ⊎_elim
     (λ l. rw (number_small n l) (simp (lt-ltb n 128 l)))
     (λ l. rw (number-big n l) (
-    simp (le-ltb (n % 128 + 128) 128 (omega arith), lt-ltb (n % 128 + 128) 256 (omega arith), groups-back k (n / 128) r ((div-lt_iff_lt-mul {k = 128} {x = n} {y = 128 ^ suc k} (omega arith)).1 (rw pow-suc at h)), lt-ltb 0 (n / 128) (omega arith))
+    simp (le-ltb (n % 128 + 128) 128 (omega arith), lt-ltb (n % 128 + 128) 256 (omega arith), groups-back k (n / 128) r ((div-lt_iff_lt-mul {k = 128} {x = n} {y = 128 ^ suc k} (omega arith)).1 (rw pow-suc at h)), lt-ltb 0 (n / 128) (omega arith), le-leb 0 (n / 128) (omega arith))
     (ap (λ (m : ℕ). got m r) (omega arith))))
     (lt-or-ge n 128)
 
@@ -100,49 +101,14 @@ pub number-back : (most : ℕ) → leb most edge ≡ true → (n : ℕ) (r : Lis
 unfolding number_read
 number-back most e n r h = rw (groups-back 9 n r (omega (arith, leb-true most edge e)), le-leb n most h)
 
--- ---- what was read is what is written
-
--- what holds of what was found holds of what is said to be found
-pub same-got : {A : Type 0} (P : A → List ℕ → Type 0) {a b : A} {u r : List ℕ} → got a u ≡ got b r → P a u → P b r
-same-got P {a} {b} {u} {r} h t =
-    let e : a ≡ b = cc in
-    let d : u ≡ r = cc in
-    rw (← e, ← d) t
-
-whole : (b v : ℕ) (t u : List ℕ) → 128 ≤ b → b < 256 → 0 < v → t ≡ number_bytes v ++ u → b ∷ t ≡ number_bytes (v * 128 + (b - 128)) ++ u
-whole b v t u l lb lv e =
-    let eb : (v * 128 + (b - 128)) % 128 + 128 ≡ b = omega arith in
-    let ev : (v * 128 + (b - 128)) / 128 ≡ v = omega arith in
-    rw (number-big (v * 128 + (b - 128)) (omega arith)) (rw (eb, ev) (ap (λ (x : List ℕ). b ∷ x) e))
-
-last : (b n : ℕ) (t r : List ℕ) → b < 128 → got b t ≡ got n r → b ∷ t ≡ number_bytes n ++ r
-last b n t r l h = same-got (λ n r. b ∷ t ≡ number_bytes n ++ r) h (rw (number_small b l))
-
-groups-forth : (s : List ℕ) (k n : ℕ) (r : List ℕ) → groups-read s k ≡ got n r → s ≡ number_bytes n ++ r
-unfolding groups-read
-groups-forth [] k n r h = never-got h
-groups-forth (b ∷ t) zero n r h =
-    let i = check_inv Malformed (ltb b 128) (got b t) h in
-    last b n t r (ltb-true b 128 i.0) i.1
-groups-forth (b ∷ t) (suc k) n r h =
-    ⊎_elim
-    (λ l. last b n t r l (simp (lt-ltb b 128 l) at h))
-    (λ l.
-    let i = check_inv Malformed (ltb b 256) (scaled 128 (b - 128) (groups-read t k)) (simp (le-ltb b 128 l) at h) in
-    let j = bind_inv (groups-read t k) (λ v r. check Malformed (ltb 0 v) (got (v * 128 + (b - 128)) r)) i.1 in
-    let m = check_inv Malformed (ltb 0 j.0) (got (j.0 * 128 + (b - 128)) j.1) j.3 in
-    same-got (λ n r. b ∷ t ≡ number_bytes n ++ r) m.1
-    (whole b j.0 t j.1 l (ltb-true b 256 i.0) (ltb-true 0 j.0 m.0) (groups-forth t k j.0 j.1 j.2)))
-    (lt-or-ge b 128)
-
-pub number-forth : (most : ℕ) (s : List ℕ) (n : ℕ) (r : List ℕ) → number_read most s ≡ got n r → (s ≡ number_bytes n ++ r) × (n ≤ most)
-unfolding number_read
-number-forth most s n r h =
-    let i = bind_inv (groups-read s 9) (λ v r. check Malformed (leb v most) (got v r)) h in
-    let j = check_inv Malformed (leb i.0 most) (got i.0 i.1) i.3 in
-    same-got (λ n r. (s ≡ number_bytes n ++ r) × (n ≤ most)) j.1 (groups-forth s 9 i.0 i.1 i.2, leb-true i.0 most j.0)
-
 -- ---- more bytes
+
+-- whatever is asked of a number
+asked : (t : List ℕ) (b : Bool) (n : ℕ) (r : List ℕ) → Extends t (check Malformed b (got n r)) (check Malformed b (got n (r ++ t)))
+asked t b n r = check-extends t b (got n r) (got n (r ++ t)) refl
+
+scaled-extends : (t : List ℕ) (weight sum : ℕ) (p q : Parsed ℕ) → Extends t p q → Extends t (scaled weight sum p) (scaled weight sum q)
+scaled-extends t weight sum p q e = bind-extends t p q _ e (λ v r. asked t _ (v * weight + sum) r)
 
 groups-steady : (s : List ℕ) (k : ℕ) (t : List ℕ) → Extends t (groups-read s k) (groups-read (s ++ t) k)
 unfolding groups-read
@@ -151,7 +117,7 @@ groups-steady (b ∷ s) zero t = check-extends t (ltb b 128) (got b s) (got b (s
 groups-steady (b ∷ s) (suc k) t =
     either (ltb b 128) _ _
     (check-extends t (ltb b 256) (scaled 128 (b - 128) (groups-read s k)) (scaled 128 (b - 128) (groups-read (s ++ t) k))
-    (bind-extends t (groups-read s k) (groups-read (s ++ t) k) _ (groups-steady s k t) (λ v r. check-extends t (ltb 0 v) (got (v * 128 + (b - 128)) r) (got (v * 128 + (b - 128)) (r ++ t)) refl)))
+    (scaled-extends t 128 (b - 128) (groups-read s k) (groups-read (s ++ t) k) (groups-steady s k t)))
   where
     either : (c : Bool) (p q : Parsed ℕ) → Extends t p q → Extends t (cond c (got b s) p) (cond c (got b (s ++ t)) q)
     either true p q e = refl
@@ -184,7 +150,6 @@ number_to most e = record {
   write = number_bytes;
   Fits = λ n. n ≤ most;
   back = number-back most e;
-  forth = number-forth most;
   steady = number-steady most;
   plain = λ n h. number-plain n;
 }

@@ -1,7 +1,7 @@
 -- Document 01: "A text is its length, then bytes; names 1 to 255, targets to 4,095, values to 4,096."
 -- Document 02, T-09: the length is a field of its own, judged before a byte of the text is looked at.
 use Rattle.std.specs.Prelude.{◌≡◌, refl, List, ◌++◌, true, ℕ, ◌≤◌, length, leb}
-use borrow.Author.Tests.{le-leb, leb-true}
+use borrow.Author.Tests.{le-leb}
 use Rattle.wire.specs.Parse.{Parsed, Extends, got, bind, check}
 use Rattle.wire.specs.Codec.{Codec, Bytes, plain-append}
 use Rattle.wire.specs.Combinators.{bytes, bytes_read, only, tagged}
@@ -23,16 +23,12 @@ module _ (least most : ℕ) (e : leb most edge ≡ true) where
   abbrev pub FitsText : List ℕ → Type 0
   FitsText t = (least ≤ length t) × (length t ≤ most) × Bytes t
 
-  abbrev framed : Codec (List ℕ)
+  abbrev pub framed : Codec (List ℕ)
   framed = tagged (only (leb least) (number_to most e)) length bytes (λ n l h. h.0)
 
   pub text-back : (t r : List ℕ) → FitsText t → text-read least most (text_bytes t ++ r) ≡ got t r
   unfolding text-read
   text-back t r h = framed.back t r ((h.1, le-leb least (length t) h.0), (refl, h.2))
-
-  pub text-forth : (s t r : List ℕ) → text-read least most s ≡ got t r → (s ≡ text_bytes t ++ r) × FitsText t
-  unfolding text-read
-  text-forth s t r h = let f = framed.forth s t r h in (f.0, (leb-true least (length t) f.1.0.1, f.1.0.0, f.1.1.1))
 
   pub text-steady : (s t : List ℕ) → Extends t (text-read least most s) (text-read least most (s ++ t))
   unfolding text-read
@@ -45,7 +41,6 @@ module _ (least most : ℕ) (e : leb most edge ≡ true) where
     write = text_bytes;
     Fits = FitsText;
     back = text-back;
-    forth = text-forth;
     steady = text-steady;
     plain = λ t h. plain-append (number_bytes (length t)) t (number-plain (length t)) h.2;
   }

@@ -9,7 +9,7 @@ use mir.Val.{Fits}
 use lib.ListN.{length, drop}
 use lib.Seq.{take_at}
 use Rattle.wire.specs.declared.cursor.Cursor.TheVariants as C
-use Rattle.wire.specs.Codec.{Codec}
+use Rattle.wire.specs.Codec.{Codec, OneForm}
 use Rattle.wire.specs.Number.{edge}
 use Rattle.wire.specs.Put.{Put}
 use Rattle.wire.specs.Reading.{part, Reads}
@@ -18,19 +18,20 @@ use Rattle.nodes.specs.Listed.{by_name, list_at, Listed}
 use Rattle.nodes.specs.Options.{text_at}
 use Rattle.nodes.specs.declared.part.Part.{Part}
 use Rattle.nodes.proofs.Reading.{reads-length}
+use Rattle.nodes.proofs.OneForm.{by_name-one}
 
 -- nothing is written
 pub put-nothing : {l : List ℕ} {at : ℕ} → length l < edge → Fits w64 at → Put l at [] at l
 put-nothing h k = record { to = omega (arith, k.fits); is = refl; short = h }
 
 -- the bytes that were read are those that are written of what they mean
-pub part-written : {A : Type 0} {img : List ℕ} (c : Codec A) {n q : ℕ} {a : A} → n ≤ length img → Reads img c.read (C.At n) a (C.At q)
+pub part-written : {A : Type 0} {img : List ℕ} (c : Codec A) → OneForm c → {n q : ℕ} {a : A} → n ≤ length img → Reads img c.read (C.At n) a (C.At q)
     → part img n (q - n) ≡ c.write a
-part-written {img = img} c {n} {q} {a} h r =
-    rw (c.forth _ _ _ r.same).0 (take_at (c.write a) (drop q img) (q - n) (omega (arith, reads-length c h r)))
+part-written {img = img} c one {n} {q} {a} h r =
+    rw (one.forth _ _ _ r.same).0 (take_at (c.write a) (drop q img) (q - n) (omega (arith, reads-length c one h r)))
 
 -- so a list that stays in the image is copied
 pub list_written : {img : List ℕ} (u : Under) {p : Part} {end : ℕ} → Listed img u p end → text_at img p ≡ (by_name u).write (list_at img u p)
 list_written {img} u {p} {end} h =
     let e : p.length ≡ end - p.start = omega (arith, h.ends) in
-    rw e (part-written (by_name u) (omega (arith, h.ends, h.inside)) (record { same = h.is; within = h.inside }))
+    rw e (part-written (by_name u) (by_name-one u) (omega (arith, h.ends, h.inside)) (record { same = h.is; within = h.inside }))

@@ -22,14 +22,3 @@ tail_meant t = (t.next_id, (t.bytes, (t.operations, t.request)))
 -- the same, where the next id passes a test: the store's ids are below it
 abbrev pub tail_if : (ℕ → Bool) → Codec TailParts
 tail_if test = only test inode then word then word then number_to 5 refl
-
--- what is read with a test is read without it
-pub tail-read : (test : ℕ → Bool) (s : List ℕ) (t : TailParts) (r : List ℕ) → (tail_if test).read s ≡ got t r → tail.read s ≡ got t r
-tail-read test s t r e =
-    let f = (tail_if test).forth s t r e in
-    rw f.0 (tail.back t r (f.1.0.0, f.1.1))
-
--- as the store is read
-pub store_tail : (bs : List Batch) (s : List ℕ) (t : TailParts) (r : List ℕ) → (next_id bs then word then word then number_to 5 refl).read s ≡ got t r
-    → tail.read s ≡ got t r
-store_tail bs s t r e = tail-read (ids_below bs) s t r e

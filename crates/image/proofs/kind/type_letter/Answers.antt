@@ -1,5 +1,3 @@
-use Rattle.image.proofs.Constructs.{above-six}
-use borrow.Author.Tests.{lt-leb}
 use Rattle.image.proofs.kind.type_letter.Goals as goal
 
 pub returns-in-0 : goal.returns-in-0
@@ -22,4 +20,3 @@ returns-in-5 c = rw c.in-5.is
 
 pub returns-in-6 : goal.returns-in-6
 returns-in-6 c = rw c.in-6.is
-

@@ -18,6 +18,5 @@ returns-in-4 c = rw c.in-4.is c.pass_number-in-4.ensures
 pub returns-in-5 : goal.returns-in-5
 returns-in-5 c = rw c.in-5.is c.pass_number-in-5.ensures
 
-
 pub returns-in_default : goal.returns-in_default
 returns-in_default c = passes-nothing _ (search rules) (search rules) (search rules) (search rules) (search rules) c.requires
