@@ -24,8 +24,6 @@ use Rattle.nodes.specs.Listed.{IfAt, Listed, ReadsNames}
 use Rattle.nodes.specs.Attrs.{fields_meant, ReadsAttr}
 use Rattle.deltas.specs.Deltas.{ReadsDelta, ReadsEntry, AttrListed, fields_length, special_delta}
 use Rattle.nodes.specs.declared.attr.AttrDelta.{AttrDelta}
-use Rattle.nodes.specs.declared.part.Part.{Part}
-use Rattle.nodes.specs.declared.option.OptionU64.{OptionU64}
 use Rattle.deltas.specs.declared.delta.DirectoryDelta.{DirectoryDelta}
 use Rattle.deltas.specs.declared.delta.SpecialDelta.{SpecialDelta}
 use Rattle.deltas.specs.declared.delta.NodeDelta.{NodeDelta}

@@ -1,3 +1,4 @@
 // Records by value, with the Rust's names, read at a place.
 #![tactic(auto)]
+
 pub mod delta;

@@ -2,4 +2,3 @@
 pub mod Decide
 pub mod Planning
 pub mod Listed
-pub mod LentRows

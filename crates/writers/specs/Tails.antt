@@ -1,12 +1,9 @@
 -- What stands at the end of an image, by value.
-use Rattle.std.specs.Prelude.{◌≡◌, refl, Bool, List, ℕ}
-use Rattle.wire.specs.Parse.{got}
+use Rattle.std.specs.Prelude.{refl, Bool, ℕ}
 use Rattle.wire.specs.Codec.{Codec}
 use Rattle.wire.specs.Combinators.{◌then◌, only}
 use Rattle.wire.specs.Number.{number_to}
-use Rattle.image.specs.Meaning.{Batch}
 use Rattle.image.specs.FieldLayout.{inode, word}
-use Rattle.image.specs.StoreLayout.{ids_below, next_id}
 use Rattle.writers.specs.declared.tail.Tail.{Tail}
 
 abbrev pub TailParts : Type 0

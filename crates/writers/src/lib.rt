@@ -1,5 +1,6 @@
 // Writers of fields, entries, batch heads and the end of an image; they also measure.
 #![tactic(auto)]
+
 pub mod batch;
 pub mod tail;
 pub mod write;
