@@ -15,9 +15,9 @@ use Rattle.wire.specs.Lists.{Every, chain_write, row, onto}
 use Rattle.image.specs.Meaning.{Text, Body, Meta, Node, Changes, Fields, Change, Record, Layer, Batch, Store, directory, file, symlink, special, tombstone, delta}
 use Rattle.image.specs.Fits.{IfGiven, FitsInode, FitsName, MapFits, MetaFits, BodyFits, NodeFits, ChangesFits, FieldsFits, ChangeFits, RecordFits, LayerFits, BatchFits, StoreFits}
 use Rattle.image.specs.Masks.{maybe}
-use Rattle.image.specs.FieldLayout.{inode, name, value, attributes}
-use Rattle.image.specs.NodeLayout.{body_part, body_part_of, meta, node, base}
-use Rattle.image.specs.RecordLayout.{changes, fields, change_part, change_part_of, layer_record, records}
+use Rattle.image.specs.FieldLayout.{inode, name, value}
+use Rattle.image.specs.NodeLayout.{body_part, body_part_of, meta, node}
+use Rattle.image.specs.RecordLayout.{changes, fields, change_part, change_part_of, layer_record}
 use Rattle.image.specs.StoreLayout.{batch_after, id_of, batches, store}
 use Rattle.image.specs.RoundTrip.{write_image}
 use Rattle.image.specs.Meaning.{kind_of, changed_kind}

@@ -1,6 +1,5 @@
 -- What the arguments of a call can be, by their types: inodes of 64 bits, texts of bytes, seconds of signed 64 bits, a delta as the layout
 -- reads it. That a name has 1 to 255 bytes and nanoseconds are below 1,000,000,000 is what refusals 3 and 4 are for.
-use Rattle.std.specs.Prelude.{◌^◌}
 use Rattle.std.specs.Int.{w64}
 use Rattle.std.proofs.Common.{SFits}
 use Rattle.wire.specs.declared.time.Time.{Time}
