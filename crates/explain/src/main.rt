@@ -3,6 +3,7 @@
 //
 //     explain INODE NAME < IMAGE
 #![tactic(auto)]
+
 mod label;
 mod show;
 
@@ -54,7 +55,9 @@ fn has_argument(rt: &impl Env, number: usize) -> bool {
 fn complain(rt: &impl Eprint, what: &str) -> io::Result<()> {
     eprintln!(rt; "explain: {what}")?;
     eprintln!(rt; "usage: explain INODE NAME < IMAGE")?;
-    eprintln!(rt; "writes what each layer of the image says of NAME in the directory INODE, from the top, and the answer")
+    eprintln!(rt;
+        "writes what each layer of the image says of NAME in the directory INODE, from the top, and the answer"
+    )
 }
 
 // The number that the digits make, if there are only digits, at least one, and 64 bits hold it.

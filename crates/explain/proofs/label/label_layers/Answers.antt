@@ -1,4 +1,3 @@
-use Prim.Native.Nat.{◌-◌}
 use native.Mathlib.Omega.{arith}
 use Rattle.wire.proofs.Readers.{number-most}
 use Rattle.explain.proofs.label.label_layers.Goals as goal

@@ -1,6 +1,5 @@
 use native.Mathlib.Omega.{arith}
 use lib.ListN.{length-set}
-use Prim.Native.Nat.{◌-◌}
 use Rattle.script.proofs.line.bytes.Goals as goal
 
 pub loop-i-preserved : goal.loop-i-preserved

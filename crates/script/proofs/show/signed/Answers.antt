@@ -1,6 +1,5 @@
 use native.Mathlib.Omega.{arith}
 use Rattle.wire.proofs.Signs.{negative_fits, negative-cast, negative-double, positive-cast}
-use borrow.Author.Rules.{rules}
 use Rattle.script.proofs.show.signed.Goals as goal
 
 pub overflow_sub-value : goal.overflow_sub-value
