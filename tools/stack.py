@@ -1,7 +1,7 @@
 #!/usr/bin/env python3
 """The scratch of each call of the static library: the bytes of stack that its deepest chain of calls takes, by the frames in the compiled code.
 
-    python3 tools/stack.py target/staticlib/libffi.a MOST      a table; it fails where a call takes more than MOST bytes
+    python3 tools/stack.py crates/ffi/out/libffi.a MOST      a table; it fails where a call takes more than MOST bytes
 
 It needs ar and objdump. A frame is what is pushed and what is subtracted from the stack pointer; a call is a
 reference of the kind that calls and jumps to other functions have. A chain that comes back to itself, or a stack pointer that is moved by a number known only when the code runs, fails.

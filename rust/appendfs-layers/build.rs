@@ -1,5 +1,5 @@
-//! Finds the static library, or has it built: the folder that APPENDFS_LAYERS_LIB names; else target/staticlib of the repository that
-//! this crate stands in, where `rt staticlib ffi` writes it if it isn't there yet.
+//! Finds the static library, or has it built: the folder that APPENDFS_LAYERS_LIB names; else crates/ffi/out of the repository that
+//! this crate stands in, where `rt lib` in crates/ffi writes it if it isn't there yet.
 
 use std::path::{Path, PathBuf};
 use std::process::{Command, exit};
@@ -28,24 +28,25 @@ fn given(folder: PathBuf) -> PathBuf {
 fn ours() -> PathBuf {
     let here = PathBuf::from(std::env::var_os("CARGO_MANIFEST_DIR").expect("cargo sets CARGO_MANIFEST_DIR"));
     let root = here.join("../..");
-    let folder = root.join("target/staticlib");
+    let folder = root.join("crates/ffi/out");
     if !folder.join(LIBRARY).is_file() {
         build(&root);
     }
     if !folder.join(LIBRARY).is_file() {
-        fail(&format!("`rt staticlib ffi` wrote no {}", folder.join(LIBRARY).display()));
+        fail(&format!("`rt lib` in crates/ffi wrote no {}", folder.join(LIBRARY).display()));
     }
     folder.canonicalize().unwrap_or(folder)
 }
 
 fn build(root: &Path) {
-    if !root.join("crates/ffi").is_dir() {
+    let ffi = root.join("crates/ffi");
+    if !ffi.is_dir() {
         fail(&format!("{} is not the repository with crates/ffi", root.display()));
     }
-    match Command::new("rt").args(["staticlib", "ffi"]).current_dir(root).output() {
+    match Command::new("rt").arg("lib").current_dir(ffi).output() {
         Ok(done) if done.status.success() => {}
         Ok(done) => fail(&format!(
-            "`rt staticlib ffi` failed:\n{}{}",
+            "`rt lib` in crates/ffi failed:\n{}{}",
             String::from_utf8_lossy(&done.stdout),
             String::from_utf8_lossy(&done.stderr)
         )),

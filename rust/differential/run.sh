@@ -1,6 +1,6 @@
 #!/bin/sh
 # differential/run.sh [SECONDS [SEED [CASE]]]: compares the static library with the published Rust for so long (60), from a seed (1).
-# Needs cargo, target/staticlib/libffi.a (rt staticlib ffi; or the folder that APPENDFS_LAYERS_LIB names), and the published sources: APPENDFS_SRC names the
+# Needs cargo, crates/ffi/out/libffi.a (rt lib in crates/ffi; or the folder that APPENDFS_LAYERS_LIB names), and the published sources: APPENDFS_SRC names the
 # folder that holds src/node.rs, else shared/docs/src beside the repository. Without them: an error with CI=true, else a notice. The exit status is 1 if anything differs.
 set -eu
 seconds=${1:-60}

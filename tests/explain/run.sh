@@ -1,11 +1,11 @@
 #!/usr/bin/env bash
 # Explains lookups in examples/blades.img, with bad arguments too, and compares what is written with tests/explain/blades.out; then the lookups that
-# the Rust answered (rust.py). Needs target/bin/explain (rt check explain) and Python 3. Says what differs, and fails.
+# the Rust answered (rust.py). Needs the program, crates/explain/out/explain (rt ci, or rt run in crates/explain), and Python 3. Says what differs, and fails.
 set -euo pipefail
 cd "$(dirname "$0")/../.."
 
-program=$PWD/target/bin/explain
-[ -x "$program" ] || { echo "tests/explain/run.sh: no $program: run 'rt check explain' first" >&2; exit 1; }
+program=$PWD/crates/explain/out/explain
+[ -x "$program" ] || { echo "tests/explain/run.sh: no $program: run 'rt run' in crates/explain first" >&2; exit 1; }
 written=$(mktemp)
 trap 'rm -f "$written"' EXIT
 

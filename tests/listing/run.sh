@@ -1,11 +1,11 @@
 #!/usr/bin/env bash
 # Lists the images of images.py and of examples/, and compares what is written with their lines; then those whose snapshots the Rust made (rust.py).
-# Needs target/bin/listing (rt check listing) and Python 3. Says what differs, and fails.
+# Needs the program, crates/listing/out/listing (rt ci, or rt run in crates/listing), and Python 3. Says what differs, and fails.
 set -euo pipefail
 cd "$(dirname "$0")/../.."
 
-program=$PWD/target/bin/listing
-[ -x "$program" ] || { echo "tests/listing/run.sh: no $program: run 'rt check listing' first" >&2; exit 1; }
+program=$PWD/crates/listing/out/listing
+[ -x "$program" ] || { echo "tests/listing/run.sh: no $program: run 'rt run' in crates/listing first" >&2; exit 1; }
 folder=$(mktemp -d)
 trap 'rm -rf "$folder"' EXIT
 

@@ -3,19 +3,23 @@
 //
 //     explain INODE NAME < IMAGE
 #![tactic(auto)]
+
 mod label;
 mod show;
 
-ghost use Rattle.std.specs.Prelude.{◌≤◌, ◌<◌};
+ghost use Rattle.std.specs.Prelude.{◌≤◌, ◌<◌, IfOk};
 ghost use Rattle.stack.specs.Stacks.{Stacked};
 
+use input::fill;
 use label::{Labels, label_layers};
-use libc::{STDERR_FILENO, STDIN_FILENO};
 use lookup::child::lookup_child;
 use show::{
     say, write_answer, write_base, write_label, write_question, write_record, write_refusal,
 };
 use stack::name::open_named;
+use std::env::FillError;
+use std::io;
+use std::rt::Env;
 use survey::batch::InodeLayerStack;
 use trace::said::deciding;
 use wire::part::part;
@@ -26,28 +30,34 @@ enum Decimal {
     NoNumber,
 }
 
-fn main() {
-    if os::arg_count() != 3 {
-        complain(b"two arguments are needed\n");
-        return;
+fn main(rt: HostRuntime) -> io::Result<()> {
+    if !has_argument(&rt, 2) || has_argument(&rt, 3) {
+        return complain(&rt, "two arguments are needed");
     }
     let mut digits = [0u8; 32];
-    let length = os::arg(1, &mut digits);
+    let length = rt.arg(1, &mut digits).unwrap_or(0);
     let number = read_decimal(&digits[..length]);
     match number {
-        Decimal::Number(inode) => explain_name(inode),
-        Decimal::NoNumber => complain(b"INODE must be a decimal number below 2^64\n"),
+        Decimal::Number(inode) => explain_name(&rt, inode),
+        Decimal::NoNumber => complain(&rt, "INODE must be a decimal number below 2^64"),
     }
 }
 
-fn complain(what: &[u8]) {
-    io::write_all(STDERR_FILENO, b"explain: ");
-    io::write_all(STDERR_FILENO, what);
-    io::write_all(STDERR_FILENO, b"usage: explain INODE NAME < IMAGE\n");
-    io::write_all(
-        STDERR_FILENO,
-        b"writes what each layer of the image says of NAME in the directory INODE, from the top, and the answer\n",
-    );
+// Whether the program was given an argument of this number; of any length.
+fn has_argument(rt: &impl Env, number: usize) -> bool {
+    let found = rt.arg(number, &mut []);
+    match found {
+        Err(FillError::NotPresent) => false,
+        _ => true,
+    }
+}
+
+fn complain(rt: &impl Eprint, what: &str) -> io::Result<()> {
+    eprintln!(rt; "explain: {what}")?;
+    eprintln!(rt; "usage: explain INODE NAME < IMAGE")?;
+    eprintln!(rt;
+        "writes what each layer of the image says of NAME in the directory INODE, from the top, and the answer"
+    )
 }
 
 // The number that the digits make, if there are only digits, at least one, and 64 bits hold it.
@@ -85,76 +95,80 @@ fn digit_of(byte: u8) -> u64
 }
 
 // Of a name that is longer than 4,096 bytes the start is enough to refuse it.
-fn name_length(length: usize, error: i32) -> usize {
-    if error != 0 {
-        return 4096;
-    }
-    length
+fn name_length(found: Result<usize, FillError>) -> usize {
+    found.unwrap_or(4096)
 }
 
-fn explain_name(ino: u64) {
+fn explain_name(rt: &HostRuntime, ino: u64) -> io::Result<()> {
     let mut name = [0u8; 4096];
-    let length = os::arg(2, &mut name);
-    let end = name_length(length, os::errno());
-    explain_image(ino, part(&name, 0, end));
+    let end = name_length(rt.arg(2, &mut name));
+    explain_image(rt, ino, part(&name, 0, end))
 }
 
-fn explain_image(ino: u64, name: &[u8]) {
+fn explain_image(rt: &HostRuntime, ino: u64, name: &[u8]) -> io::Result<()> {
     let mut image = [0u8; 65537];
-    let size = io::read_full(STDIN_FILENO, &mut image);
-    explain(&image[..size], ino, name);
+    let size = fill(&mut rt.stdin(), &mut image)?;
+    explain(rt, &image[..size], ino, name)
 }
 
-fn explain(img: &[u8], ino: u64, name: &[u8]) {
+fn explain(rt: &impl Print, img: &[u8], ino: u64, name: &[u8]) -> io::Result<()> {
     let opened = open_named(img, ino, name);
     if opened.refusal != 0 {
-        write_refusal(opened.refusal);
-        return;
+        return write_refusal(rt, opened.refusal);
     }
     let stack = opened.stack;
-    write_question(ino, name);
+    write_question(rt, ino, name)?;
     let labels = label_layers(img, ino);
     let decides = deciding(img, stack, name);
-    write_layers(img, stack, name, labels, decides);
-    write_base(img, stack, name, decides == 0);
+    write_layers(rt, img, stack, name, labels, decides)?;
+    write_base(rt, img, stack, name, decides == 0)?;
     let answer = lookup_child(img, ino, name);
-    write_answer(answer);
+    write_answer(rt, answer)
 }
 
 // A line for each layer, live first.
-fn write_layers(img: &[u8], stack: InodeLayerStack, name: &[u8], labels: Labels, decides: usize)
+fn write_layers(
+    rt: &impl Print,
+    img: &[u8],
+    stack: InodeLayerStack,
+    name: &[u8],
+    labels: Labels,
+    decides: usize,
+) -> io::Result<()>
     requires { Stacked img.now stack × (labels.batches ≤ 16) }
 {
     let mut left = stack.count;
     let mut layer = labels.batches + 1;
     while 0 < layer {
         layer -= 1;
-        write_label(labels, layer);
-        left = write_layer(img, stack, name, labels.places[layer], left, decides);
+        write_label(rt, labels, layer)?;
+        left = write_layer(rt, img, stack, name, labels.places[layer], left, decides)?;
     }
+    Ok(())
 }
 
 // The highest of the lowest `left` records, if it is the one that stands at the layer's place. Answers how many are left.
 fn write_layer(
+    rt: &impl Print,
     img: &[u8],
     stack: InodeLayerStack,
     name: &[u8],
     place: usize,
     left: usize,
     decides: usize,
-) -> usize
+) -> io::Result<usize>
     requires { Stacked img.now stack × (left ≤ stack.count) }
-    ensures { result ≤ left }
+    ensures { IfOk result (λ rest. rest ≤ left) }
 {
     if left == 0 {
-        say(b"no record\n");
-        return left;
+        say(rt, b"no record\n")?;
+        return Ok(left);
     }
     let i = left - 1;
     if stack.deltas[i] != place {
-        say(b"no record\n");
-        return left;
+        say(rt, b"no record\n")?;
+        return Ok(left);
     }
-    write_record(img, stack, i, name, decides == left);
-    i
+    write_record(rt, img, stack, i, name, decides == left)?;
+    Ok(i)
 }

@@ -4,46 +4,45 @@
 #![tactic(auto)]
 ghost use Rattle.lines.specs.Rows.{HasRows};
 
-use libc::{STDIN_FILENO, STDOUT_FILENO};
+use input::fill;
 use lines::line::{put_heading, put_refusal};
 use lines::rows::{Opened, Rows, open_listing, put_next};
+use std::io;
 use wire::part::part;
 
-fn main() {
+fn main(rt: HostRuntime) -> io::Result<()> {
     let mut image = [0u8; 65537];
     let mut target = [0u8; 65536];
-    let length = io::read_full(STDIN_FILENO, &mut image);
-    list(&image[..length], &mut target);
+    let length = fill(&mut rt.stdin(), &mut image)?;
+    list(&rt, &image[..length], &mut target)
 }
 
-fn list(img: &[u8], target: &mut [u8]) {
+fn list(rt: &impl Print, img: &[u8], target: &mut [u8]) -> io::Result<()> {
     let opened = open_listing(img, target);
     match opened {
-        Opened::Refused(number) => write_refusal(number),
-        Opened::Lines(rows) => write_lines(target, rows),
+        Opened::Refused(number) => write_refusal(rt, number),
+        Opened::Lines(rows) => write_lines(rt, target, rows),
     }
 }
 
-fn write_refusal(number: u32) {
+fn write_refusal(rt: &impl Print, number: u32) -> io::Result<()> {
     let mut line = [0u8; 128];
     let end = put_refusal(&mut line, 0, number);
-    io::write_all(STDOUT_FILENO, part(&line, 0, end));
+    rt.write_all(part(&line, 0, end))
 }
 
 // The heading and the lines; it stops where nothing more can be written.
-fn write_lines(snapshot: &[u8], rows: Rows)
+fn write_lines(rt: &impl Print, snapshot: &[u8], rows: Rows) -> io::Result<()>
     requires { HasRows snapshot.now rows }
 {
     let mut line = [0u8; 128];
     let end = put_heading(&mut line, 0);
-    let mut more = io::write_all(STDOUT_FILENO, part(&line, 0, end));
+    rt.write_all(part(&line, 0, end))?;
     let mut rest = rows;
-    while more {
-        if rest.left == 0 {
-            return;
-        }
+    while rest.left != 0 {
         let next = put_next(&mut line, snapshot, rest);
-        more = io::write_all(STDOUT_FILENO, part(&line, 0, next.end));
+        rt.write_all(part(&line, 0, next.end))?;
         rest = next.rest;
     }
+    Ok(())
 }

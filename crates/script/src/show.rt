@@ -1,107 +1,109 @@
-// Writing answers to standard output.
+// Writing answers to standard output. What cannot be written is answered as an error.
 use attrs::node::FileType;
-use libc::STDOUT_FILENO;
+use std::io;
 use wire::cursor::Fault;
 use wire::time::Time;
 
-pub fn text(words: &[u8]) {
-    io::write_all(STDOUT_FILENO, words);
+pub fn text(rt: &impl Print, words: &[u8]) -> io::Result<()> {
+    rt.write_all(words)
 }
 
-pub fn number(value: u64) {
-    io::print_decimal(STDOUT_FILENO, value);
+pub fn number(rt: &impl Print, value: u64) -> io::Result<()> {
+    rt.print(value)
 }
 
-pub fn signed(value: i64) {
+pub fn signed(rt: &impl Print, value: i64) -> io::Result<()> {
     if value < 0 {
-        text(b"-");
-        number((-1 - value) as u64 + 1);
+        text(rt, b"-")?;
+        number(rt, (-1 - value) as u64 + 1)
     } else {
-        number(value as u64);
+        number(rt, value as u64)
     }
 }
 
-pub fn hex(bytes: &[u8]) {
+pub fn hex(rt: &impl Print, bytes: &[u8]) -> io::Result<()> {
     let mut i = 0;
     while i < bytes.len() {
-        nibble(bytes[i] / 16);
-        nibble(bytes[i] % 16);
+        nibble(rt, bytes[i] / 16)?;
+        nibble(rt, bytes[i] % 16)?;
         i += 1;
     }
+    Ok(())
 }
 
-fn nibble(value: u8) {
+fn nibble(rt: &impl Print, value: u8) -> io::Result<()> {
     if value < 10 {
-        text(&[b'0' + value]);
+        text(rt, &[b'0' + value])
     } else {
-        text(&[b'A' + value % 16 - 10]);
+        text(rt, &[b'A' + value % 16 - 10])
     }
 }
 
-pub fn fault(why: Fault) {
+pub fn fault(rt: &impl Print, why: Fault) -> io::Result<()> {
     match why {
-        Fault::Ended => text(b"ended"),
-        Fault::Malformed => text(b"malformed"),
+        Fault::Ended => text(rt, b"ended"),
+        Fault::Malformed => text(rt, b"malformed"),
     }
 }
 
 // How many bytes were read, and how the value is written.
-pub fn written(length: usize, bytes: &[u8]) {
-    text(b", ");
-    number(length as u64);
-    text(b" bytes, written ");
-    hex(bytes);
+pub fn written(rt: &impl Print, length: usize, bytes: &[u8]) -> io::Result<()> {
+    text(rt, b", ")?;
+    number(rt, length as u64)?;
+    text(rt, b" bytes, written ")?;
+    hex(rt, bytes)
 }
 
-pub fn refused(number: u32) {
-    text(b" = refused ");
-    io::print_decimal(STDOUT_FILENO, number as u64);
+pub fn refused(rt: &impl Print, number: u32) -> io::Result<()> {
+    text(rt, b" = refused ")?;
+    rt.print(number)
 }
 
 // A number behind others.
-pub fn next(value: u64) {
-    text(b" ");
-    number(value);
+pub fn next(rt: &impl Print, value: u64) -> io::Result<()> {
+    text(rt, b" ")?;
+    number(rt, value)
 }
 
 // A time behind others.
-pub fn time(moment: Time) {
-    text(b" ");
-    signed(moment.seconds);
-    text(b".");
-    number(moment.nanos as u64);
+pub fn time(rt: &impl Print, moment: Time) -> io::Result<()> {
+    text(rt, b" ")?;
+    signed(rt, moment.seconds)?;
+    text(rt, b".")?;
+    number(rt, moment.nanos as u64)
 }
 
 // Bytes as a word of the list has them.
-pub fn word(bytes: &[u8]) {
+pub fn word(rt: &impl Print, bytes: &[u8]) -> io::Result<()> {
     if bytes.len() == 0 {
-        text(b"-");
+        text(rt, b"-")
     } else {
-        hex(bytes);
+        hex(rt, bytes)
     }
 }
 
-pub fn octal(value: u32) {
+pub fn octal(rt: &impl Print, value: u32) -> io::Result<()> {
     if value == 0 {
-        nibble(0);
+        nibble(rt, 0)?;
     }
     let mut place: u32 = 0o10000000000;
     while 0 < place {
         if place <= value {
-            nibble((value / place % 8) as u8);
+            nibble(rt, (value / place % 8) as u8)?;
         }
         place = place / 8;
     }
+    Ok(())
 }
 
-pub fn letter(kind: FileType) {
+pub fn letter(rt: &impl Print, kind: FileType) -> io::Result<()> {
     match kind {
-        FileType::Directory => text(b"d"),
-        FileType::RegularFile => text(b"-"),
-        FileType::Symlink => text(b"l"),
-        FileType::NamedPipe => text(b"p"),
-        FileType::CharDevice => text(b"c"),
-        FileType::BlockDevice => text(b"b"),
-        FileType::Socket => text(b"s"),
+        FileType::Directory => text(rt, b"d"),
+        FileType::RegularFile => text(rt, b"-"),
+        FileType::Symlink => text(rt, b"l"),
+        FileType::NamedPipe => text(rt, b"p"),
+        FileType::CharDevice => text(rt, b"c"),
+        FileType::BlockDevice => text(rt, b"b"),
+        FileType::Socket => text(rt, b"s"),
     }
 }

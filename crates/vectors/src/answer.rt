@@ -3,6 +3,7 @@ use crate::reads;
 use passes::inode::Place;
 use script::line::{bytes, decimal, same, word};
 use script::show;
+use std::io;
 use survey::batch::InodeLayerStack;
 use survey::store::{Verdict, read_image};
 use wire::cursor::Cursor;
@@ -12,30 +13,30 @@ use wire::part::part;
 use wire::text::{put_text, read_text};
 use wire::time::{put_time, read_time};
 
-pub fn answer(line: &[u8]) {
-    show::text(line);
+pub fn answer(rt: &impl Print, line: &[u8]) -> io::Result<()> {
+    show::text(rt, line)?;
     let call = word(line, 0);
     if same(call, b"number") {
-        number(line);
+        number(rt, line)?;
     }
     if same(call, b"text") {
-        text(line);
+        text(rt, line)?;
     }
     if same(call, b"time") {
-        time(line);
+        time(rt, line)?;
     }
     if same(call, b"compare") {
-        order(line);
+        order(rt, line)?;
     }
     if same(call, b"image") {
-        image(line);
+        image(rt, line)?;
     }
-    reads::answer(line);
-    show::text(b"\n");
+    reads::answer(rt, line)?;
+    show::text(rt, b"\n")
 }
 
-fn number(line: &[u8]) {
-    show::text(b" = ");
+fn number(rt: &impl Print, line: &[u8]) -> io::Result<()> {
+    show::text(rt, b" = ")?;
     let mut input = [0u8; 512];
     let length = bytes(word(line, 2), &mut input);
     let read = read_number(
@@ -46,17 +47,17 @@ fn number(line: &[u8]) {
     let next = read.next;
     match next {
         Cursor::At(end) => {
-            show::number(read.value);
+            show::number(rt, read.value)?;
             let mut output = [0u8; 512];
             let stop = put_number(&mut output, 0, read.value);
-            show::written(end, part(&output, 0, stop));
+            show::written(rt, end, part(&output, 0, stop))
         }
-        Cursor::Stop(why) => show::fault(why),
+        Cursor::Stop(why) => show::fault(rt, why),
     }
 }
 
-fn text(line: &[u8]) {
-    show::text(b" = ");
+fn text(rt: &impl Print, line: &[u8]) -> io::Result<()> {
+    show::text(rt, b" = ")?;
     let mut input = [0u8; 512];
     let length = bytes(word(line, 3), &mut input);
     let read = read_text(
@@ -68,19 +69,19 @@ fn text(line: &[u8]) {
     let next = read.next;
     match next {
         Cursor::At(end) => {
-            show::number(read.start as u64);
-            show::text(b" ");
-            show::number(read.length as u64);
+            show::number(rt, read.start as u64)?;
+            show::text(rt, b" ")?;
+            show::number(rt, read.length as u64)?;
             let mut output = [0u8; 512];
             let stop = put_text(&mut output, 0, part(&input, read.start, read.length));
-            show::written(end, part(&output, 0, stop));
+            show::written(rt, end, part(&output, 0, stop))
         }
-        Cursor::Stop(why) => show::fault(why),
+        Cursor::Stop(why) => show::fault(rt, why),
     }
 }
 
-fn time(line: &[u8]) {
-    show::text(b" = ");
+fn time(rt: &impl Print, line: &[u8]) -> io::Result<()> {
+    show::text(rt, b" = ")?;
     let mut input = [0u8; 512];
     let length = bytes(word(line, 1), &mut input);
     let read = read_time(part(&input, 0, length), Cursor::At(0));
@@ -88,19 +89,19 @@ fn time(line: &[u8]) {
     match next {
         Cursor::At(end) => {
             let moment = read.time;
-            show::signed(moment.seconds);
-            show::text(b" ");
-            show::number(moment.nanos as u64);
+            show::signed(rt, moment.seconds)?;
+            show::text(rt, b" ")?;
+            show::number(rt, moment.nanos as u64)?;
             let mut output = [0u8; 512];
             let stop = put_time(&mut output, 0, moment);
-            show::written(end, part(&output, 0, stop));
+            show::written(rt, end, part(&output, 0, stop))
         }
-        Cursor::Stop(why) => show::fault(why),
+        Cursor::Stop(why) => show::fault(rt, why),
     }
 }
 
-fn order(line: &[u8]) {
-    show::text(b" = ");
+fn order(rt: &impl Print, line: &[u8]) -> io::Result<()> {
+    show::text(rt, b" = ")?;
     let mut image = [0u8; 512];
     let mut name = [0u8; 512];
     let size = bytes(word(line, 1), &mut image);
@@ -108,14 +109,14 @@ fn order(line: &[u8]) {
     let length = decimal(word(line, 3)) as usize;
     let count = bytes(word(line, 4), &mut name);
     match compare_part(part(&image, 0, size), start, length, part(&name, 0, count)) {
-        Ordering::Less => show::text(b"less"),
-        Ordering::Equal => show::text(b"equal"),
-        Ordering::Greater => show::text(b"greater"),
+        Ordering::Less => show::text(rt, b"less"),
+        Ordering::Equal => show::text(rt, b"equal"),
+        Ordering::Greater => show::text(rt, b"greater"),
     }
 }
 
-fn image(line: &[u8]) {
-    show::text(b" = ");
+fn image(rt: &impl Print, line: &[u8]) -> io::Result<()> {
+    show::text(rt, b" = ")?;
     let mut input = [0u8; 512];
     let length = bytes(word(line, 2), &mut input);
     let read = read_image(part(&input, 0, length), decimal(word(line, 1)));
@@ -123,27 +124,28 @@ fn image(line: &[u8]) {
     match verdict {
         Verdict::Fine => {
             let survey = read.survey;
-            stack(survey.stack);
+            stack(rt, survey.stack)
         }
-        Verdict::TooLong => show::text(b"refused 1"),
-        Verdict::Broken => show::text(b"refused 2"),
+        Verdict::TooLong => show::text(rt, b"refused 1"),
+        Verdict::Broken => show::text(rt, b"refused 2"),
     }
 }
 
 // The place of the node, then those of the records.
-fn stack(found: InodeLayerStack) {
+fn stack(rt: &impl Print, found: InodeLayerStack) -> io::Result<()> {
     let base = found.base;
     match base {
-        Place::At(place) => show::number(place as u64),
-        Place::Nowhere => show::text(b"-"),
+        Place::At(place) => show::number(rt, place as u64)?,
+        Place::Nowhere => show::text(rt, b"-")?,
     }
     let deltas = found.deltas;
     let mut i = 0;
     while i < 17 {
         if i < found.count {
-            show::text(b" ");
-            show::number(deltas[i] as u64);
+            show::text(rt, b" ")?;
+            show::number(rt, deltas[i] as u64)?;
         }
         i += 1;
     }
+    Ok(())
 }

@@ -5,6 +5,7 @@ use layers::answer::RowsAnswer;
 use rows::listing::{Entry, list_directory, list_xattrs};
 use script::line::{bytes, decimal, word};
 use script::show;
+use std::io;
 use wire::part::part;
 
 #[derive(Clone, Copy)]
@@ -40,7 +41,7 @@ fn room(count: u64) -> usize
     16
 }
 
-pub fn list(line: &[u8]) {
+pub fn list(rt: &impl Print, line: &[u8]) -> io::Result<()> {
     let mut image = [0u8; 512];
     let length = bytes(word(line, 3), &mut image);
     let blank = Entry {
@@ -54,10 +55,10 @@ pub fn list(line: &[u8]) {
         blank,
         room(decimal(word(line, 2))),
     );
-    answered(part(&image, 0, length), listed, true);
+    answered(rt, part(&image, 0, length), listed, true)
 }
 
-pub fn names(line: &[u8]) {
+pub fn names(rt: &impl Print, line: &[u8]) -> io::Result<()> {
     let mut image = [0u8; 512];
     let length = bytes(word(line, 3), &mut image);
     let blank = Entry {
@@ -71,36 +72,37 @@ pub fn names(line: &[u8]) {
         blank,
         room(decimal(word(line, 2))),
     );
-    answered(part(&image, 0, length), listed, false);
+    answered(rt, part(&image, 0, length), listed, false)
 }
 
-fn answered(img: &[u8], listed: Listed, inodes: bool) {
+fn answered(rt: &impl Print, img: &[u8], listed: Listed, inodes: bool) -> io::Result<()> {
     let answer = listed.answer;
     match answer {
-        RowsAnswer::Refused(number) => show::refused(number),
-        RowsAnswer::None => show::text(b" = none"),
+        RowsAnswer::Refused(number) => show::refused(rt, number),
+        RowsAnswer::None => show::text(rt, b" = none"),
         RowsAnswer::Rows(count) => {
-            show::text(b" = ");
-            show::number(count as u64);
-            shown(img, listed, count, inodes);
+            show::text(rt, b" = ")?;
+            show::number(rt, count as u64)?;
+            shown(rt, img, listed, count, inodes)
         }
     }
 }
 
 // The names of the rows filled, with their inodes where these are asked for.
-fn shown(img: &[u8], listed: Listed, count: usize, inodes: bool) {
+fn shown(rt: &impl Print, img: &[u8], listed: Listed, count: usize, inodes: bool) -> io::Result<()> {
     let rows = listed.rows;
     let mut i = 0;
     while i < 16 {
         if i < count {
             let row = rows[i];
-            show::text(b" ");
-            show::word(part(img, row.start, row.length));
+            show::text(rt, b" ")?;
+            show::word(rt, part(img, row.start, row.length))?;
             if inodes {
-                show::text(b":");
-                show::number(row.inode);
+                show::text(rt, b":")?;
+                show::number(rt, row.inode)?;
             }
         }
         i += 1;
     }
+    Ok(())
 }

@@ -6,67 +6,69 @@ use layers::{attr as file_attr, layers as reads};
 use lookup::child::lookup_child;
 use script::line::{bytes, decimal, same, word};
 use script::show;
+use std::io;
 use wire::part::part;
 use xattrs::xattr::{get_xattr, has_xattr};
 
 // The answer of a line that asks for a read; of another line nothing.
-pub fn answer(line: &[u8]) {
+pub fn answer(rt: &impl Print, line: &[u8]) -> io::Result<()> {
     let call = word(line, 0);
     if same(call, b"exists") {
-        exists(line);
+        exists(rt, line)?;
     }
     if same(call, b"type") {
-        file_type(line);
+        file_type(rt, line)?;
     }
     if same(call, b"child") {
-        child(line);
+        child(rt, line)?;
     }
     if same(call, b"attr") {
-        attr(line);
+        attr(rt, line)?;
     }
     if same(call, b"list") {
-        lend::list(line);
+        lend::list(rt, line)?;
     }
     if same(call, b"link") {
-        link(line);
+        link(rt, line)?;
     }
     if same(call, b"parent") {
-        parent(line);
+        parent(rt, line)?;
     }
     if same(call, b"xattr") {
-        xattr(line);
+        xattr(rt, line)?;
     }
     if same(call, b"names") {
-        lend::names(line);
+        lend::names(rt, line)?;
     }
+    Ok(())
 }
 
-fn exists(line: &[u8]) {
+fn exists(rt: &impl Print, line: &[u8]) -> io::Result<()> {
     let mut image = [0u8; 512];
     let length = bytes(word(line, 2), &mut image);
     let found = reads::exists(part(&image, 0, length), decimal(word(line, 1)));
     match found {
-        YesNo::Refused(number) => show::refused(number),
-        YesNo::No => show::text(b" = no"),
-        YesNo::Yes => show::text(b" = yes"),
+        YesNo::Refused(number) => show::refused(rt, number),
+        YesNo::No => show::text(rt, b" = no"),
+        YesNo::Yes => show::text(rt, b" = yes"),
     }
 }
 
-fn file_type(line: &[u8]) {
+fn file_type(rt: &impl Print, line: &[u8]) -> io::Result<()> {
     let mut image = [0u8; 512];
     let length = bytes(word(line, 2), &mut image);
     let found = reads::file_type(part(&image, 0, length), decimal(word(line, 1)));
     match found {
-        TypeAnswer::Refused(number) => show::refused(number),
-        TypeAnswer::None => show::text(b" = none"),
+        TypeAnswer::Refused(number) => show::refused(rt, number),
+        TypeAnswer::None => show::text(rt, b" = none"),
         TypeAnswer::Type(kind) => {
-            show::text(b" = ");
-            show::letter(kind);
+            show::text(rt, b" = ")?;
+            show::letter(rt, kind)
         }
     }
 }
 
-fn child(line: &[u8]) {
+fn child(rt: &impl Print, line: &[u8]) -> io::Result<()> {
     let mut image = [0u8; 512];
     let mut name = [0u8; 512];
     let length = bytes(word(line, 3), &mut image);
@@ -76,68 +78,72 @@ fn child(line: &[u8]) {
         decimal(word(line, 1)),
         part(&name, 0, count),
     );
-    inode(found);
+    inode(rt, found)
 }
 
-fn parent(line: &[u8]) {
+fn parent(rt: &impl Print, line: &[u8]) -> io::Result<()> {
     let mut image = [0u8; 512];
     let length = bytes(word(line, 2), &mut image);
     let found = reads::parent_dir_inode(part(&image, 0, length), decimal(word(line, 1)));
-    inode(found);
+    inode(rt, found)
 }
 
-fn inode(found: InodeAnswer) {
+fn inode(rt: &impl Print, found: InodeAnswer) -> io::Result<()> {
     match found {
-        InodeAnswer::Refused(number) => show::refused(number),
-        InodeAnswer::None => show::text(b" = none"),
+        InodeAnswer::Refused(number) => show::refused(rt, number),
+        InodeAnswer::None => show::text(rt, b" = none"),
         InodeAnswer::Inode(number) => {
-            show::text(b" = inode ");
-            show::number(number);
+            show::text(rt, b" = inode ")?;
+            show::number(rt, number)
         }
     }
 }
 
-fn attr(line: &[u8]) {
+fn attr(rt: &impl Print, line: &[u8]) -> io::Result<()> {
     let mut image = [0u8; 512];
     let length = bytes(word(line, 2), &mut image);
     let found = file_attr::attr(part(&image, 0, length), decimal(word(line, 1)));
     match found {
-        AttrAnswer::Refused(number) => show::refused(number),
-        AttrAnswer::None => show::text(b" = none"),
+        AttrAnswer::Refused(number) => show::refused(rt, number),
+        AttrAnswer::None => show::text(rt, b" = none"),
         AttrAnswer::Attr(shown) => {
-            show::text(b" = ");
-            attributes(shown);
+            show::text(rt, b" = ")?;
+            attributes(rt, shown)
         }
     }
 }
 
-fn attributes(shown: FileAttr) {
+fn attributes(rt: &impl Print, shown: FileAttr) -> io::Result<()> {
     let file_type = shown.file_type;
-    show::letter(file_type);
-    show::text(b" ");
-    show::octal(shown.perm);
-    show::next(shown.nlink as u64);
-    show::next(shown.uid as u64);
-    show::next(shown.gid as u64);
-    show::next(shown.rdev as u64);
-    show::next(shown.size);
+    show::letter(rt, file_type)?;
+    show::text(rt, b" ")?;
+    show::octal(rt, shown.perm)?;
+    show::next(rt, shown.nlink as u64)?;
+    show::next(rt, shown.uid as u64)?;
+    show::next(rt, shown.gid as u64)?;
+    show::next(rt, shown.rdev as u64)?;
+    show::next(rt, shown.size)?;
     let atime = shown.atime;
     let mtime = shown.mtime;
     let ctime = shown.ctime;
-    show::time(atime);
-    show::time(mtime);
-    show::time(ctime);
+    show::time(rt, atime)?;
+    show::time(rt, mtime)?;
+    show::time(rt, ctime)
 }
 
-fn link(line: &[u8]) {
+fn link(rt: &impl Print, line: &[u8]) -> io::Result<()> {
     let mut image = [0u8; 512];
     let length = bytes(word(line, 2), &mut image);
     let ino = decimal(word(line, 1));
     let found = reads::has_link(part(&image, 0, length), ino);
-    text(found, reads::read_link(part(&image, 0, length), ino));
+    text(
+        rt,
+        found,
+        reads::read_link(part(&image, 0, length), ino),
+    )
 }
 
-fn xattr(line: &[u8]) {
+fn xattr(rt: &impl Print, line: &[u8]) -> io::Result<()> {
     let mut image = [0u8; 512];
     let mut name = [0u8; 512];
     let length = bytes(word(line, 3), &mut image);
@@ -145,19 +151,20 @@ fn xattr(line: &[u8]) {
     let ino = decimal(word(line, 1));
     let found = has_xattr(part(&image, 0, length), ino, part(&name, 0, count));
     text(
+        rt,
         found,
         get_xattr(part(&image, 0, length), ino, part(&name, 0, count)),
-    );
+    )
 }
 
 // A text, and the answer of the call beside it.
-fn text(found: YesNo, value: &[u8]) {
+fn text(rt: &impl Print, found: YesNo, value: &[u8]) -> io::Result<()> {
     match found {
-        YesNo::Refused(number) => show::refused(number),
-        YesNo::No => show::text(b" = none"),
+        YesNo::Refused(number) => show::refused(rt, number),
+        YesNo::No => show::text(rt, b" = none"),
         YesNo::Yes => {
-            show::text(b" = text ");
-            show::word(value);
+            show::text(rt, b" = text ")?;
+            show::word(rt, value)
         }
     }
 }

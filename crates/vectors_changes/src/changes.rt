@@ -9,6 +9,7 @@ use overlay::live::{insert_new_node, tombstone};
 use queue::queue::{freeze_live, pop_flushed_batch, record_mutation, request};
 use script::line::{bytes, decimal, same, word};
 use script::show;
+use std::io;
 use update::update::update_attr_delta;
 use wire::part::part;
 use wire::time::Time;
@@ -31,85 +32,104 @@ enum Call {
 }
 
 // Writes the line, and the answer of the change that it asks for.
-pub fn answer(line: &[u8]) {
-    show::text(line);
+pub fn answer(rt: &impl Print, line: &[u8]) -> io::Result<()> {
+    show::text(rt, line)?;
     let call = word(line, 0);
-    change_live(line, call);
-    change_layers(line, call);
-    show::text(b"\n");
+    change_live(rt, line, call)?;
+    change_layers(rt, line, call)?;
+    show::text(rt, b"\n")
 }
 
 // Changes of one inode's live record.
-fn change_live(line: &[u8], call: &[u8]) {
+fn change_live(rt: &impl Print, line: &[u8], call: &[u8]) -> io::Result<()> {
     if same(call, b"insert") {
-        replay(line, Call::Insert, 3);
+        replay(rt, line, Call::Insert, 3)?;
     }
     if same(call, b"tombstone") {
-        replay(line, Call::Tombstone, 2);
+        replay(rt, line, Call::Tombstone, 2)?;
     }
     if same(call, b"add") {
-        replay(line, Call::Add, 6);
+        replay(rt, line, Call::Add, 6)?;
     }
     if same(call, b"remove") {
-        replay(line, Call::Remove, 5);
+        replay(rt, line, Call::Remove, 5)?;
     }
     if same(call, b"setparent") {
-        replay(line, Call::SetParent, 3);
+        replay(rt, line, Call::SetParent, 3)?;
     }
     if same(call, b"update") {
-        replay(line, Call::Update, 3);
+        replay(rt, line, Call::Update, 3)?;
     }
+    Ok(())
 }
 
 // Changes of whole layers, and of the queue.
-fn change_layers(line: &[u8], call: &[u8]) {
+fn change_layers(rt: &impl Print, line: &[u8], call: &[u8]) -> io::Result<()> {
     if same(call, b"normalise") {
-        replay(line, Call::Normalise, 2);
+        replay(rt, line, Call::Normalise, 2)?;
     }
     if same(call, b"freeze") {
-        replay(line, Call::Freeze, 6);
+        replay(rt, line, Call::Freeze, 6)?;
     }
     if same(call, b"fold") {
-        replay(line, Call::Fold, 1);
+        replay(rt, line, Call::Fold, 1)?;
     }
     if same(call, b"pop") {
-        replay(line, Call::Pop, 2);
+        replay(rt, line, Call::Pop, 2)?;
     }
     if same(call, b"note") {
-        replay(line, Call::Note, 2);
+        replay(rt, line, Call::Note, 2)?;
     }
     if same(call, b"request") {
-        replay(line, Call::Request, 2);
+        replay(rt, line, Call::Request, 2)?;
     }
     if same(call, b"snapshot") {
-        replay(line, Call::Snapshot, 1);
+        replay(rt, line, Call::Snapshot, 1)?;
     }
+    Ok(())
 }
 
 // The room and the image are the last two words.
-fn replay(line: &[u8], call: Call, last: usize)
+fn replay(rt: &impl Print, line: &[u8], call: Call, last: usize) -> io::Result<()>
     requires { last ≤ 6 }
 {
     let mut image = [0u8; 512];
     let mut given = [0u8; 512];
     let mut target = [0u8; 512];
-    lend(line, call, last, &mut image, &mut given, &mut target);
+    lend(
+        rt,
+        line,
+        call,
+        last,
+        &mut image,
+        &mut given,
+        &mut target,
+    )
 }
 
 // Lends the image, the second word as bytes, and a target.
-fn lend(line: &[u8], call: Call, last: usize, image: &mut [u8], given: &mut [u8], target: &mut [u8])
+fn lend(
+    rt: &impl Print,
+    line: &[u8],
+    call: Call,
+    last: usize,
+    image: &mut [u8],
+    given: &mut [u8],
+    target: &mut [u8],
+) -> io::Result<()>
     requires { last ≤ 6 }
 {
     let length = bytes(word(line, last + 1), image);
     let count = bytes(word(line, 2), given);
     let room = room_of(word(line, last), target.len());
     show_change(
+        rt,
         line,
         call,
         part(image, 0, length),
         part(given, 0, count),
         &mut target[..room],
-    );
+    )
 }
 
 // At most as long a target as there is to lend.
@@ -123,13 +143,20 @@ fn room_of(word: &[u8], most: usize) -> usize
     most
 }
 
-fn show_change(line: &[u8], call: Call, img: &[u8], given: &[u8], target: &mut [u8]) {
+fn show_change(
+    rt: &impl Print,
+    line: &[u8],
+    call: Call,
+    img: &[u8],
+    given: &[u8],
+    target: &mut [u8],
+) -> io::Result<()> {
     let answer = change(line, call, img, given, target);
     match answer {
-        ChangeAnswer::Refused(number) => show::refused(number),
+        ChangeAnswer::Refused(number) => show::refused(rt, number),
         ChangeAnswer::Length(length) => {
-            show::text(b" = image ");
-            show::word(part(target, 0, length));
+            show::text(rt, b" = image ")?;
+            show::word(rt, part(target, 0, length))
         }
     }
 }

@@ -13,20 +13,22 @@
 mod changes;
 
 use changes::answer;
-use libc::STDIN_FILENO;
+use input::fill;
 use script::line::find;
+use std::io;
 
-fn main() {
-    let mut input = [0u8; 262144];
-    let length = io::read_full(STDIN_FILENO, &mut input);
-    replay(&input[..length]);
+fn main(rt: HostRuntime) -> io::Result<()> {
+    let mut list = [0u8; 262144];
+    let length = fill(&mut rt.stdin(), &mut list)?;
+    replay(&rt, &list[..length])
 }
 
-fn replay(list: &[u8]) {
+fn replay(rt: &impl Print, list: &[u8]) -> io::Result<()> {
     let mut at = 0;
     while at < list.len() {
         let end = find(list, at, b'\n');
-        answer(&list[at..end]);
+        answer(rt, &list[at..end])?;
         at = end + 1;
     }
+    Ok(())
 }

@@ -1,0 +1,5 @@
+use Rattle.lines.proofs.Whole.{opened_rows}
+use Rattle.listing.proofs.list.Goals as goal
+
+pub write_lines-requires : goal.write_lines-requires
+write_lines-requires c = opened_rows (rw c.in-Lines.is at c.open_listing-opened.ensures)
