@@ -1,4 +1,5 @@
 // The reads of one inode that look for a name in lists: children.
 #![tactic(auto)]
+
 pub mod child;
 pub mod search;

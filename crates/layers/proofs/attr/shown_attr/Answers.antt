@@ -1,4 +1,3 @@
-use Prim.Native.Nat.{◌-◌}
 use native.Mathlib.Omega.{arith}
 use Rattle.layers.proofs.Attrs.{rise-start, rise-on, rise-end}
 use Rattle.layers.proofs.attr.shown_attr.Goals as goal

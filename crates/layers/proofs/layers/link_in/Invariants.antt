@@ -1,4 +1,3 @@
-use Prim.Native.Nat.{◌-◌}
 use Rattle.rules.specs.Reads.{link_text}
 use Rattle.stack.proofs.Walks.{Walked}
 use Rattle.layers.proofs.layers.link_in.Given as goal

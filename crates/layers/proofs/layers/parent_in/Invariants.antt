@@ -1,4 +1,3 @@
-use Prim.Native.Nat.{◌-◌}
 use Rattle.rules.specs.Reads.{parent}
 use Rattle.stack.proofs.Walks.{Walked}
 use Rattle.layers.proofs.layers.parent_in.Given as goal

@@ -1,4 +1,3 @@
-use Prim.Native.Nat.{◌-◌}
 use native.Mathlib.Omega.{arith}
 use Rattle.merge.proofs.Merging.{passing-none, passing-more, passing-all}
 use Rattle.merge.proofs.merge.pass_all.Goals as goal
