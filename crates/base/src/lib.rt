@@ -1,3 +1,4 @@
 // The new base: the nodes that fold makes of the stacks of a walk, written.
 #![tactic(auto)]
+
 pub mod node;

@@ -17,7 +17,7 @@ use Rattle.image.specs.declared.name.Under.TheVariants as U
 use Rattle.image.specs.Masks.{maybe}
 use Rattle.image.specs.FieldLayout.{inode, entries}
 use Rattle.image.specs.KindLayout.{code}
-use Rattle.image.specs.RecordLayout.{changes, names, fields, layer_record}
+use Rattle.image.specs.RecordLayout.{changes, names, layer_record}
 use Rattle.image.specs.RoundTrip.{write_image}
 use Rattle.nodes.specs.Options.{number_of}
 use Rattle.nodes.specs.Listed.{list_of, ListedIf}

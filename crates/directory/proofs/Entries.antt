@@ -18,7 +18,7 @@ use Rattle.wire.specs.Number.{edge, number_bytes}
 use Rattle.wire.specs.Text.{text_bytes}
 use Rattle.image.specs.Meaning.{Text}
 use Rattle.image.specs.declared.name.Under.{Under as Sort}
-use Rattle.image.specs.FieldLayout.{name, listed}
+use Rattle.image.specs.FieldLayout.{name}
 use Rattle.image.specs.Under.{UnderName, under}
 use Rattle.image.specs.Places.{Holds}
 use Rattle.passes.specs.Held.{place_of}

@@ -1,5 +1,4 @@
 -- Fields merged by value: the new one, if it is there. Document 01: "Update merges into a live delta, field by field".
-use Rattle.image.specs.FieldLayout.{value}
 use Rattle.nodes.specs.Attrs.{attr_delta}
 use Rattle.nodes.specs.declared.attr.AttrDelta.{AttrDelta}
 use Rattle.nodes.specs.declared.attr.Words.{Words}

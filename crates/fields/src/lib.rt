@@ -1,3 +1,4 @@
 // The fields of an update, over those of a live delta.
 #![tactic(auto)]
+
 pub mod fields;

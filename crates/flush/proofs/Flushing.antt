@@ -17,8 +17,6 @@ use Rattle.wire.specs.Reading.{Reads, Answers}
 use Rattle.wire.specs.Maps.{empty}
 use Rattle.image.specs.Meaning.{Batch, Layer, Store}
 use Rattle.image.specs.Fits.{FitsStore}
-use Rattle.image.specs.NodeLayout.{base}
-use Rattle.image.specs.StoreLayout.{batches}
 use Rattle.survey.specs.Verdict.{verdict_of}
 use Rattle.image.specs.RoundTrip.{write_image}
 use Rattle.writers.specs.Tails.{TailParts, tail}

@@ -3,7 +3,7 @@
 use mathlib.Core.Path.{◌≡◌, refl, sym, ap, ◌∙◌}
 use mathlib.Core.List.{List, [], ◌∷◌, ◌++◌, append_assoc}
 use mathlib.Core.Option.{Option, none, some}
-use Prim.Native.Nat.{ℕ, suc, ◌+◌}
+use Prim.Native.Nat.{ℕ, suc}
 use native.Mathlib.Omega.{arith}
 use lib.ListN.{length, drop}
 use Rattle.wire.specs.Order.{Order}
@@ -15,7 +15,7 @@ use Rattle.wire.specs.Number.{number_bytes, number_read, number_to}
 use Rattle.wire.specs.Lists.{Every, FitsRow, last_count}
 use Rattle.image.specs.declared.name.Under.TheVariants as U
 use Rattle.image.specs.Masks.{maybe}
-use Rattle.image.specs.FieldLayout.{name, value, listed}
+use Rattle.image.specs.FieldLayout.{name, value}
 use Rattle.image.specs.RecordLayout.{changes}
 use Rattle.nodes.specs.Listed.{list_at, list_of, Listed, ListedIf}
 use Rattle.nodes.specs.declared.part.Part.{Part}

@@ -15,7 +15,6 @@ use Rattle.wire.specs.declared.cursor.Fault.{Fault}
 use Rattle.wire.specs.declared.cursor.Cursor.{Cursor}
 use Rattle.wire.specs.declared.cursor.Cursor.TheVariants.{At, Stop}
 use Rattle.wire.specs.Orders.{by_bytes}
-use Rattle.wire.specs.Maps.{put}
 use Rattle.wire.specs.Parse.{Parsed, fault, got, never-got}
 use Rattle.wire.specs.Number.{edge, number_bytes, number_read}
 use Rattle.wire.specs.Lists.{last_count}
@@ -26,7 +25,6 @@ use Rattle.wire.proofs.Readers.{number-most}
 use Rattle.image.specs.Meaning.{Text}
 use Rattle.image.specs.Masks.{maybe}
 use Rattle.image.specs.FieldLayout.{name, value}
-use Rattle.image.specs.RecordLayout.{changes}
 use Rattle.image.specs.Places.{passed, Ends}
 use Rattle.change.specs.Sections.{Spans}
 use Rattle.change.specs.Cuts.{rows_below, rows_above, rows_bytes}

@@ -1,4 +1,5 @@
 // Two lists of attribute changes merged, and written.
 #![tactic(auto)]
+
 pub mod merged;
 pub mod row;

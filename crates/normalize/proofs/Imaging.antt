@@ -35,7 +35,6 @@ use Rattle.image.proofs.RoundTrip.{read_fits}
 use Rattle.writers.specs.Tails.{tail}
 use Rattle.rules.specs.Initial.{usual}
 use Rattle.rules.specs.Calls.{Call}
-use Rattle.rules.specs.Refusals.{refusal}
 use Rattle.rules.specs.Outcomes.{result}
 use Rattle.rules.specs.Stacks.{stack, with_live, layers}
 use Rattle.rules.specs.Changes.{map_if}

@@ -1,7 +1,7 @@
 -- The live directory delta of an inode. Document 01: "Add entry, remove entry and set parent act on the live directory delta, making an empty
 -- one if there is no live record; on a live record of another sort they do nothing."
 use Rattle.std.specs.Prelude.{◌≡◌, List, ℕ}
-use Rattle.std.proofs.Math.Option.{Option, none, some}
+use Rattle.std.proofs.Math.Option.{Option, some}
 use Rattle.wire.specs.Orders.{by_bytes}
 use Rattle.wire.specs.Maps.{Map, empty}
 use Rattle.image.specs.Meaning.{Record, directory}

@@ -3,10 +3,10 @@
 use mathlib.Core.Path.{◌≡◌, refl, sym, ap, ◌∙◌}
 use mathlib.Core.Option.{Option, none, some}
 use mathlib.Core.List.{List, [], ◌∷◌, ◌++◌, map}
-use Prim.Native.Nat.{ℕ, ◌+◌}
+use Prim.Native.Nat.{ℕ}
 use Rattle.wire.specs.Orders.{by_bytes}
 use Rattle.wire.specs.Maps.{Map, meet, merge, empty, get, map-ext, get-empty, get-merge}
-use Rattle.image.specs.Meaning.{Text, Entries, Names, Body, Meta, Node, Changes, Fields, Change, Record, directory, file, symlink, special, tombstone, delta}
+use Rattle.image.specs.Meaning.{Text, Names, Body, Meta, Node, Changes, Fields, Change, Record, directory, file, symlink, special, tombstone, delta}
 use Rattle.image.specs.Masks.{maybe}
 use Rattle.image.specs.FieldLayout.{inode, value}
 use Rattle.image.specs.declared.name.Under.TheVariants as U

@@ -1,3 +1,4 @@
 // The calls that fill lent rows: the entries of a directory, the names of extended attributes.
 #![tactic(auto)]
+
 pub mod listing;

@@ -4,7 +4,7 @@ use mathlib.Core.Path.{◌≡◌, refl, sym, ap, ◌∙◌}
 use mathlib.Core.Bool.{Bool, true, false, not}
 use mathlib.Core.List.{List, [], ◌∷◌, ◌++◌, append_assoc}
 use mathlib.Core.Option.{Option, none, some}
-use Prim.Native.Nat.{ℕ, suc, ◌+◌}
+use Prim.Native.Nat.{ℕ, suc}
 use lib.ListN.{length, drop}
 use lib.Dec.{eqb}
 use borrow.Author.Tests.{eqb-true, eqb-false}
@@ -19,7 +19,7 @@ use Rattle.wire.specs.Number.{number_bytes, groups}
 use Rattle.image.specs.declared.name.Under.TheVariants as U
 use Rattle.passes.specs.declared.inode.Place.TheVariants as A
 use Rattle.survey.specs.declared.batch.InodeLayerStack.{InodeLayerStack}
-use Rattle.image.specs.Meaning.{Kind, Change, Record, Layer, Batch, Store, directory, file, symlink, special, pipe, character, block, socket, tombstone, delta, kind_number, changed_kind}
+use Rattle.image.specs.Meaning.{Kind, Record, Layer, Batch, Store, directory, file, symlink, special, pipe, character, block, socket, tombstone, delta, kind_number, changed_kind}
 use Rattle.image.specs.Fits.{FitsRecord}
 use Rattle.image.specs.FieldLayout.{inode}
 use Rattle.image.specs.RecordLayout.{changes, fields, layer_record}

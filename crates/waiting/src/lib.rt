@@ -1,4 +1,5 @@
 // The batches that wait, counted, and images with another queue written.
 #![tactic(auto)]
+
 pub mod batch;
 pub mod write;

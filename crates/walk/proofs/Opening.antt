@@ -19,10 +19,10 @@ use Rattle.wire.specs.Orders.{by_number}
 use Rattle.wire.specs.Maps.{Map, empty}
 use Rattle.wire.specs.Lists.{Every, FitsRow, chain_write, row, onto, last_count}
 use Rattle.wire.specs.Reading.{Answers, Reads, place_at}
-use Rattle.image.specs.Meaning.{Node, Record, Base, Layer, Batch, Store}
+use Rattle.image.specs.Meaning.{Base, Layer, Batch, Store}
 use Rattle.image.specs.Fits.{FitsBatch, FitsStore}
 use Rattle.image.specs.FieldLayout.{inode, listed}
-use Rattle.image.specs.NodeLayout.{node, base}
+use Rattle.image.specs.NodeLayout.{node}
 use Rattle.image.specs.RecordLayout.{layer_record, records}
 use Rattle.image.specs.StoreLayout.{batches}
 use Rattle.survey.specs.Gathering.{batch_head}

@@ -14,8 +14,7 @@ use Rattle.wire.specs.declared.order.Ordering.{Ordering}
 use Rattle.wire.specs.declared.order.Ordering.TheVariants.{Less, Equal, Greater}
 use Rattle.wire.specs.Orders.{by_number, greater-N, says, Says, cmp_n}
 use Rattle.wire.specs.Maps.{meet}
-use Rattle.image.specs.Meaning.{Node, Record}
-use Rattle.image.specs.NodeLayout.{node}
+use Rattle.image.specs.Meaning.{Node}
 use Rattle.passes.specs.Held.{place_of}
 use Rattle.survey.specs.Gathering.{list_if, deltas_of, Pushed}
 use Rattle.passes.specs.declared.inode.Held.{Held}

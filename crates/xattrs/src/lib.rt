@@ -1,3 +1,4 @@
 // Extended attributes by name: their values and whether they are there.
 #![tactic(auto)]
+
 pub mod xattr;

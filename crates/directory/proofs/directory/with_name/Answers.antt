@@ -11,6 +11,6 @@ returns-in-Directory c = name_set c.cut_records-cut.ensures c.live_directory-liv
 
 pub returns-in-Other : goal.returns-in-Other
 returns-in-Other c = record {
-      alters = λ a oa b ob.
-          stays_same c.cut_records-cut.ensures c.live_directory-live.ensures c.in-Other.is (named_change _ _ a b) c.unchanged.ensures;
-    }
+  alters = λ a oa b ob.
+      stays_same c.cut_records-cut.ensures c.live_directory-live.ensures c.in-Other.is (named_change _ _ a b) c.unchanged.ensures;
+}

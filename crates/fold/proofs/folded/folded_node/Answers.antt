@@ -1,4 +1,3 @@
-use Prim.Native.Nat.{◌-◌}
 use native.Mathlib.Omega.{arith}
 use Rattle.fold.proofs.Folding.{rising-base, rising-more, rising-all}
 use Rattle.fold.proofs.folded.folded_node.Goals as goal

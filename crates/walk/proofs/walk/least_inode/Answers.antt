@@ -1,4 +1,3 @@
-use Prim.Native.Nat.{◌-◌}
 use native.Mathlib.Omega.{arith}
 use Rattle.walk.proofs.Stepping.{leasting-start, leasting-more, leasting-all}
 use Rattle.walk.proofs.walk.least_inode.Goals as goal

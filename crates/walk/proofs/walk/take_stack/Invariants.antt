@@ -1,5 +1,4 @@
 use Prim.Native.Nat.{◌-◌}
-use Rattle.passes.specs.declared.inode.Held.TheVariants as H
 use Rattle.walk.proofs.Stepping.{Layering}
 use Rattle.walk.proofs.walk.take_stack.Given as goal
 
