@@ -14,7 +14,7 @@ use Rattle.image.specs.Meaning.{directory, Node, Store}
 use Rattle.image.specs.KindLayout.{kind}
 use Rattle.image.specs.NodeLayout.{meta, node}
 use Rattle.image.specs.StoreLayout.{batches, store}
-use Rattle.image.specs.RoundTrip.{read_image, write_image}
+use Rattle.image.specs.RoundTrip.{read_image}
 use Rattle.image.proofs.RoundTrip.{one-image}
 use Rattle.rules.specs.Stacks.{over_base}
 use Rattle.rules.specs.Queue.{fold_all, snapshot}

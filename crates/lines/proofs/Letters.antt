@@ -1,6 +1,6 @@
 -- Every kind has its letter.
 -- Assumes nothing.
-use mathlib.Core.Path.{◌≡◌, refl, sym, ap, ◌∙◌}
+use mathlib.Core.Path.{◌≡◌, refl, ap, ◌∙◌}
 use Prim.Native.Nat.{ℕ}
 use native.Mathlib.Omega.{arith}
 use Rattle.image.specs.Meaning.{Kind, kind_number, directory, file, symlink, special, pipe, character, block, socket}

@@ -2,19 +2,18 @@
 -- Assumes nothing.
 use mathlib.Core.Path.{◌≡◌, refl, sym, ap, ◌∙◌}
 use mathlib.Core.Bool.{Bool, true, false, ◌&&◌, cond}
-use mathlib.Core.List.{List, [], ◌++◌, append_assoc}
-use Prim.Native.Nat.{ℕ, ◌+◌, ◌≤◌}
+use mathlib.Core.List.{List, ◌++◌, append_assoc}
+use Prim.Native.Nat.{ℕ, ◌≤◌}
 use native.Mathlib.Omega.{arith}
-use lib.Dec.{ltb, leb}
+use lib.Dec.{ltb}
 use lib.ListN.{length, drop, length-append}
 use lib.Seq.{drop-append_seam}
 use borrow.Author.Tests.{leb-true}
-use Rattle.wire.specs.Parse.{Parsed, fault, got, never-got}
-use Rattle.wire.specs.Codec.{decode}
-use Rattle.image.specs.Meaning.{Base, Store}
+use Rattle.wire.specs.Parse.{Parsed, fault, got}
+use Rattle.image.specs.Meaning.{Store}
 use Rattle.image.specs.Fits.{FitsStore}
 use Rattle.image.specs.NodeLayout.{node, base}
-use Rattle.image.specs.StoreLayout.{batches, store}
+use Rattle.image.specs.StoreLayout.{store}
 use Rattle.image.specs.RoundTrip.{read_image, write_image}
 use Rattle.rules.specs.Initial.{usual}
 use Rattle.rules.specs.Answers.{Answer, refused, answer}

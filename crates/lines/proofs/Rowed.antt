@@ -1,9 +1,9 @@
 -- The rows of a base in its image: the first place, and one row after the other.
 -- Assumes nothing.
-use mathlib.Core.Path.{◌≡◌, refl, sym, ap, ◌∙◌}
-use mathlib.Core.Option.{Option, none, some}
-use mathlib.Core.List.{List, [], ◌∷◌, ◌++◌, append_assoc}
-use Prim.Native.Nat.{ℕ, suc, ◌+◌, ◌-◌}
+use mathlib.Core.Path.{◌≡◌, refl, ap, ◌∙◌}
+use mathlib.Core.Option.{none, some}
+use mathlib.Core.List.{List, ◌∷◌, ◌++◌, append_assoc}
+use Prim.Native.Nat.{ℕ, suc, ◌-◌}
 use native.Mathlib.Omega.{arith}
 use lib.ListN.{length}
 use Rattle.wire.specs.declared.cursor.Cursor.{Cursor}
@@ -12,12 +12,11 @@ use Rattle.wire.specs.Number.{edge, number_bytes, number_read, number_to}
 use Rattle.wire.specs.Orders.{by_number}
 use Rattle.wire.specs.Lists.{last_count}
 use Rattle.wire.specs.Put.{Put}
-use Rattle.wire.specs.Reading.{Reads, Answers, place_at}
+use Rattle.wire.specs.Reading.{Answers, place_at}
 use Rattle.image.specs.Meaning as M
 use Rattle.image.specs.Meaning.{Base}
 use Rattle.image.specs.FieldLayout.{inode}
 use Rattle.image.specs.NodeLayout.{node, base}
-use Rattle.nodes.specs.Listed.{IfAt}
 use Rattle.nodes.specs.Nodes.{node_meant, EntriesListed, ReadsNode}
 use Rattle.nodes.specs.declared.node.Node.{Node}
 use Rattle.nodes.specs.declared.node.NodeKind.{NodeKind}

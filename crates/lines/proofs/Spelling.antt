@@ -1,12 +1,12 @@
 -- Digits put into a text from its end.
 -- Assumes nothing.
 use mathlib.Core.Path.{◌≡◌, refl, sym, ap, ◌∙◌}
-use mathlib.Core.Bool.{Bool, true, false, ◌&&◌}
+use mathlib.Core.Bool.{true, false, ◌&&◌}
 use mathlib.Core.List.{List, [], ◌∷◌, ◌++◌, append_assoc, append-nil}
 use Prim.Native.Nat.{ℕ, zero, suc, ◌+◌, ◌-◌, ◌/◌, ◌%◌, ◌≤◌, ◌<◌}
 use native.Mathlib.Omega.{arith}
 use lib.Dec.{eqb}
-use lib.ListN.{length, drop, set, get_or, length-set, drop_of_length-le, length-drop}
+use lib.ListN.{length, drop, set, length-set, drop_of_length-le, length-drop}
 use lib.Seq.{take_all, drop-cons, get_or-set_same, drop-set-lt}
 use Rattle.wire.specs.Put.{Put}
 use Rattle.wire.specs.Reading.{part}

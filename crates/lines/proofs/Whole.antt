@@ -1,16 +1,16 @@
 -- What the program writes, piece by piece, is the whole listing.
 -- Assumes nothing.
-use mathlib.Core.Path.{◌≡◌, refl, sym, ap, ◌∙◌}
+use mathlib.Core.Path.{◌≡◌, refl, ap, ◌∙◌}
 use mathlib.Core.Option.{Option, none, some}
 use mathlib.Core.List.{List, [], ◌∷◌, ◌++◌}
 use mathlib.Core.Bool.{Bool, true, false, ◌&&◌, cond}
-use Prim.Native.Nat.{ℕ, zero, suc, ◌+◌, ◌-◌, ◌/◌, ◌%◌, ◌≤◌, ◌<◌}
+use Prim.Native.Nat.{ℕ, zero, suc, ◌+◌, ◌-◌, ◌/◌, ◌%◌, ◌≤◌}
 use native.Mathlib.Omega.{arith}
 use lib.Dec.{eqb}
 use lib.ListN.{length, take, drop, length-append}
 use lib.Seq.{take_at}
 use Rattle.wire.specs.Put.{Put}
-use Rattle.wire.proofs.Puts.{put-exact, put_whole}
+use Rattle.wire.proofs.Puts.{put_whole}
 use Rattle.image.specs.Meaning as M
 use Rattle.image.specs.Meaning.{Store}
 use Rattle.rules.specs.Answers.{Answer, refused, answer}

@@ -1,5 +1,6 @@
 // The lines of the listing program, and the snapshot that they show.
 #![tactic(auto)]
+
 pub mod digit;
 pub mod line;
 pub mod rows;

@@ -2,6 +2,7 @@
 // `refused N`. What is written is `listing_bytes` of crates/lines (`whole`, crates/lines/proofs/Whole.antt). The buffers are 65,537 bytes for the
 // image, so that a longer one is seen to be too long, 65,536 for its snapshot, and 128 for a line.
 #![tactic(auto)]
+
 ghost use Rattle.lines.specs.Rows.{HasRows};
 
 use input::fill;

@@ -89,7 +89,13 @@ fn answered(rt: &impl Print, img: &[u8], listed: Listed, inodes: bool) -> io::Re
 }
 
 // The names of the rows filled, with their inodes where these are asked for.
-fn shown(rt: &impl Print, img: &[u8], listed: Listed, count: usize, inodes: bool) -> io::Result<()> {
+fn shown(
+    rt: &impl Print,
+    img: &[u8],
+    listed: Listed,
+    count: usize,
+    inodes: bool,
+) -> io::Result<()> {
     let rows = listed.rows;
     let mut i = 0;
     while i < 16 {

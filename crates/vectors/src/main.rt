@@ -19,6 +19,7 @@
 //     xattr INODE NAME BYTES       the value
 //     names INODE ROWS BYTES       how many names of extended attributes, and each
 #![tactic(auto)]
+
 mod answer;
 mod lend;
 mod reads;

@@ -136,11 +136,7 @@ fn link(rt: &impl Print, line: &[u8]) -> io::Result<()> {
     let length = bytes(word(line, 2), &mut image);
     let ino = decimal(word(line, 1));
     let found = reads::has_link(part(&image, 0, length), ino);
-    text(
-        rt,
-        found,
-        reads::read_link(part(&image, 0, length), ino),
-    )
+    text(rt, found, reads::read_link(part(&image, 0, length), ino))
 }
 
 fn xattr(rt: &impl Print, line: &[u8]) -> io::Result<()> {

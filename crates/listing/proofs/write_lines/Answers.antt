@@ -1,15 +1,10 @@
 use borrow.Author.Rules.{rules}
+use native.Mathlib.Omega.{arith}
 use Rattle.lines.proofs.Whole.{next-rows}
 use Rattle.listing.proofs.write_lines.Goals as goal
 
--- returns : tie.Need-returns invariant-loop decreases-loop
--- returns c = search rules
-
--- returns-2 : tie.Need-returns-2 invariant-loop decreases-loop
--- returns-2 c = search rules
-
 pub loop-rest-init : goal.loop-rest-init
-loop-rest-init c = (search rules, c.requires)
+loop-rest-init g c = (search rules, c.requires)
 
 pub loop-rest-preserved : goal.loop-rest-preserved
-loop-rest-preserved c = (search rules, next-rows c.loop-rest.invariant.1 c.loop-rest-test.false c.put_next-next.ensures)
+loop-rest-preserved g c = (search rules, next-rows c.loop-rest.invariant.1 (λ z. omega (arith, z, c.loop-rest-test.true)) c.put_next-next.ensures)

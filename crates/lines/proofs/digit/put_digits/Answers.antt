@@ -1,4 +1,3 @@
-use native.Mathlib.Nat.{mod-lt}
 use mathlib.Core.Path.{refl, sym, ◌∙◌}
 use native.Mathlib.Omega.{arith}
 use Rattle.lines.proofs.Spelling.{spelled_none, spelled-more, spelled-done, spelled-full, put_same}
@@ -9,12 +8,6 @@ loop-start-init c = (refl, spelled_none refl)
 
 pub returns-then-is_done : goal.returns-then-is_done
 returns-then-is_done c = put_same c.loop-start.invariant.0 (spelled-done c.loop-start.invariant.1 (sym c.is_done.ensures ∙ c.if-is_done.true)) c.put_part.ensures
-
-pub overflow_add-text : goal.overflow_add-text
-overflow_add-text c = record { fits = omega (arith, mod-lt c.loop-start.loop-start-own.rest {m = c.args.base} (omega arith)) }
-
-pub overflow_cast-text : goal.overflow_cast-text
-overflow_cast-text c = record { fits = omega (arith, mod-lt c.loop-start.loop-start-own.rest {m = c.args.base} (omega arith)) }
 
 pub loop-start-preserved : goal.loop-start-preserved
 loop-start-preserved c = (c.loop-start.invariant.0, spelled-more c.loop-start.invariant.1 c.loop-start-test.true (sym c.is_done.ensures ∙ c.if-is_done.false) c.less_one-left.ensures)

@@ -1,5 +1,4 @@
 use Rattle.wire.proofs.Puts.{put-append}
-use borrow.Author.Rules.{rules}
 use Rattle.lines.proofs.line.put_refusal.Goals as goal
 
 -- slice-aggregate-put-bytes : tie.Need-slice-aggregate-put-bytes

@@ -2,7 +2,7 @@ use Prim.Native.Nat.{◌-◌, ◌≤◌}
 use Rattle.vectors.proofs.answer.stack.Given as goal
 
 abbrev pub invariant-loop-i : goal.invariant-loop-i
-invariant-loop-i l = l.i ≤ 17
+invariant-loop-i g l = l.i ≤ 17
 
 abbrev pub decreases-loop-i : goal.decreases-loop-i
-decreases-loop-i l = 17 - l.i
+decreases-loop-i g l = 17 - l.i

@@ -1,2 +1,0 @@
--- What the proofs of more than one function use.
-pub mod Lending
