@@ -96,15 +96,7 @@ fn replay(rt: &impl Print, line: &[u8], call: Call, last: usize) -> io::Result<(
     let mut image = [0u8; 512];
     let mut given = [0u8; 512];
     let mut target = [0u8; 512];
-    lend(
-        rt,
-        line,
-        call,
-        last,
-        &mut image,
-        &mut given,
-        &mut target,
-    )
+    lend(rt, line, call, last, &mut image, &mut given, &mut target)
 }
 
 // Lends the image, the second word as bytes, and a target.

@@ -10,6 +10,7 @@
 //     note BYTES ROOM BYTES                            request REASON ROOM BYTES
 //     snapshot ROOM BYTES
 #![tactic(auto)]
+
 mod changes;
 
 use changes::answer;

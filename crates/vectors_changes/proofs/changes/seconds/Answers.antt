@@ -1,4 +1,3 @@
-use borrow.Author.Rules.{rules}
 use Prim.Native.Nat.{ℕ, zero, suc, ◌<◌, ◌≤◌}
 use native.Mathlib.Omega.{arith}
 use lib.IntN.{pos, negsuc, ◌-ℤ◌, +ℤ_idl}
@@ -14,9 +13,6 @@ below-zero (suc n) h = rw (+ℤ_idl (negsuc n)) (record { sfits = omega (arith, 
 
 turned : (n : ℕ) → n ≤ 9223372036854775807 → SFits w64 (pos 0 -ℤ to_z w64 n)
 turned n h = rw (to_z-of_z w64 (pos n) (record { sfits = omega (arith, h) })) (below-zero n (omega (arith, h)))
-
--- slice-aggregate-same : tie.Need-slice-aggregate-same
--- slice-aggregate-same c = search rules
 
 pub overflow_sub-result : goal.overflow_sub-result
 overflow_sub-result c = turned c.decimal-size.result (omega (arith, c.if-size-gt9223372036854775807.false))
