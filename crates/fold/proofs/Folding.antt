@@ -44,7 +44,8 @@ use Rattle.deltas.specs.contracts.delta.NodeDelta as deltas
 use Rattle.deltas.proofs.Others.{one-delta, one-kind, not_directory}
 use Rattle.attrs.specs.Meant.{kind_meant}
 use Rattle.attrs.specs.declared.node.FileType.{FileType}
-use Rattle.writers.specs.Writes.{meta_bytes, meta-with-bytes}
+use Rattle.writers.specs.Writes.{meta_bytes}
+use Rattle.writers.proofs.Written.{meta-with-bytes}
 use Rattle.records.specs.Records.{body_bytes}
 use Rattle.writers.proofs.Writing.{list_written}
 use Rattle.stack.specs.Stacks.{Stacked, records_under, records_in, node_in, RecordIs, BaseIs}

@@ -14,7 +14,8 @@ use Rattle.image.specs.RecordLayout.{changes, change_part, change_part_of, layer
 use Rattle.nodes.specs.Listed.{list_at, list_of, ListedIf, Listed}
 use Rattle.deltas.specs.Deltas.{attr_of, change_meant, entry_meant, ChangeListed, AttrListed, EntryListed}
 use Rattle.nodes.specs.Nodes.{body_meant, node_meant, EntriesListed}
-use Rattle.writers.specs.Writes.{attr_bytes, meta_bytes, fields-bytes, meta-bytes}
+use Rattle.writers.specs.Writes.{attr_bytes, meta_bytes, fields-bytes}
+use Rattle.writers.proofs.Written.{meta-bytes}
 use Rattle.records.specs.Records.{list_bytes, change_bytes, entry_bytes, body_bytes, node_bytes}
 use Rattle.nodes.specs.declared.option.OptionPart.{OptionPart}
 use Rattle.nodes.specs.declared.option.OptionPart.TheVariants as P

@@ -1,3 +1,4 @@
 -- Laws that the proofs of more than one function use, and that the crates above cite.
 pub mod Writing
 pub mod Tails
+pub mod Written

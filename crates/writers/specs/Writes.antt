@@ -6,13 +6,12 @@ use Rattle.wire.specs.Combinators.{count, opt_write}
 use Rattle.wire.specs.Number.{number_bytes}
 use Rattle.image.specs.declared.name.Under.TheVariants as U
 use Rattle.image.specs.Meaning.{Attributes, Changes, Fields, Meta}
-use Rattle.image.specs.FieldLayout.{word, moment, attributes}
-use Rattle.image.specs.NodeLayout.{meta_of, meta}
+use Rattle.image.specs.FieldLayout.{word, moment}
+use Rattle.image.specs.NodeLayout.{meta_of}
 use Rattle.image.specs.RecordLayout.{changes, fields_of, field_parts, flags, fields}
 use Rattle.nodes.specs.Options.{word_of, time_of}
-use Rattle.nodes.specs.Listed.{list_at, list_of}
+use Rattle.nodes.specs.Listed.{list_of}
 use Rattle.nodes.specs.Attrs.{fields_meant}
-use Rattle.nodes.specs.Nodes.{meta_meant}
 use Rattle.nodes.specs.declared.option.OptionPart.{OptionPart}
 use Rattle.nodes.specs.declared.option.OptionPart.TheVariants as P
 use Rattle.nodes.specs.declared.attr.AttrDelta.{AttrDelta}
@@ -78,10 +77,3 @@ meta_bytes m =
 -- the same, with these attributes
 abbrev pub meta_with : InodeMeta → Attributes → Meta
 meta_with m l = meta_of (m.perm, (m.nlink, (m.uid, (m.gid, (m.atime, (m.mtime, (m.ctime, l)))))))
-
-pub meta-with-bytes : (m : InodeMeta) (l : Attributes) → meta.write (meta_with m l) ≡ meta_bytes m ++ attributes.write l
-unfolding meta
-meta-with-bytes m l = simp append_assoc
-
-pub meta-bytes : (img : List ℕ) (m : InodeMeta) → meta.write (meta_meant img m) ≡ meta_bytes m ++ attributes.write (list_at img U.Value m.xattrs)
-meta-bytes img m = meta-with-bytes m (list_at img U.Value m.xattrs)
