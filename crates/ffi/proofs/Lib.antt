@@ -1,4 +1,3 @@
 -- Laws that the proofs of more than one function use.
 mod Replying
 mod Counting
-mod Exporting

@@ -1,10 +1,10 @@
 -- What a reply says, by the answer that it was made of.
 -- Assumes nothing.
 use mathlib.Core.Path.{◌≡◌, refl, sym, ap, ◌∙◌}
-use mathlib.Core.Bool.{true, false}
+use mathlib.Core.Bool.{true}
 use mathlib.Core.List.{List, [], ◌∷◌}
 use mathlib.Core.Option.{Option, none, some}
-use Prim.Native.Nat.{ℕ, zero, suc, ◌+◌, ◌-◌, ◌≤◌}
+use Prim.Native.Nat.{ℕ, zero, suc}
 use native.Mathlib.Omega.{arith}
 use lib.ListN.{length, take, drop, length-take, length-drop, drop_of_length-le}
 use lib.IntN.{ℤ}
@@ -15,12 +15,11 @@ use Rattle.wire.specs.declared.time.Time.{Time}
 use Rattle.wire.specs.Reading.{part}
 use Rattle.image.specs.Meaning.{Text}
 use Rattle.rules.specs.Answers.{Answer, refused, answer}
-use Rattle.rules.specs.ReadCalls.{text_of}
 use Rattle.change.specs.Changed.{Changes, answered}
 use Rattle.change.specs.declared.answer.ChangeAnswer.{ChangeAnswer}
 use Rattle.ffi.specs.declared.reply.ChangeReply.{ChangeReply}
 use Rattle.ffi.specs.declared.reply.TextReply.{TextReply}
-use Rattle.ffi.specs.Replies.{ChangeReplies, reply_of, change_reply, TextReplies, no_text, time_given, refusal_of, is_found}
+use Rattle.ffi.specs.Replies.{ChangeReplies, reply_of, change_reply, TextReplies, no_text, time_given}
 
 -- ---- changes
 

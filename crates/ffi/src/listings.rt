@@ -1,4 +1,4 @@
-// The calls that fill lent rows. They are proved by hand: the kit's borrow checker covers no slice of structs.
+// The calls that fill lent rows.
 ghost use Rattle.std.specs.Prelude.{◌≡◌, length};
 ghost use Rattle.rules.specs.Initial.{usual};
 ghost use Rattle.rules.specs.ReadCalls.{list_directory, list_xattrs};
