@@ -1,5 +1,7 @@
 #!/usr/bin/env python3
-"""convert.py CRATE_DIR NAMES.JSON [FN..]: turns proofs/F/Proof.antt (over Tie) into Invariants.antt and Answers.antt."""
+"""port_proofs.py CRATE_DIR NAMES.JSON [FN..]: turns each proofs/F/Proof.antt of a crate (an answer for each need of `Tie`) into Invariants.antt and Answers.antt.
+
+NAMES.JSON is what `rt check --generated DIR --old-names` writes in the crate: the old name of each goal and step, beside today's. Run once in the port, from the lowest crate up."""
 import json, os, re, sys, difflib
 crate_dir, names_path = sys.argv[1], sys.argv[2]
 only = set(sys.argv[3:])

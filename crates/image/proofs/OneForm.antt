@@ -15,7 +15,7 @@ use Rattle.wire.proofs.NumberForms.{number_to-one, below-one, between-one, coded
 use Rattle.wire.proofs.ListForms.{chain-one, row-one, rising-one}
 use Rattle.image.specs.Meaning.{Kind, Batch, kind_number, directory, file, symlink, special, pipe, character, block, socket}
 use Rattle.image.specs.Fits.{FitsMap, FitsTime, FitsMeta, FitsNode, FitsFields, FitsRecord, FitsBatch, FitsBatches, FitsStore}
-use Rattle.image.specs.Masks.{Masked, last, flag, masked, maybe}
+use Rattle.image.specs.Masks.{Masked, last, flag_at, flag, masked, maybe}
 use Rattle.image.specs.FieldLayout.{inode, word, size, name, target, value, time-fits, fits-time, moment, listed, entries, attributes}
 use Rattle.image.specs.KindLayout.{kind_at, kind-number, number-kind, kind-small, kind, code_at, code_number, code-number, number-code, code-small, code}
 use Rattle.image.specs.NodeLayout.{meta_of, meta_parts, meta, body_part, node_of, node_parts, node-parts, parts-node, plain_node, node-fits, fits-node, node, base}
@@ -69,10 +69,11 @@ pub record MaskedOne {A : Type 0} (d : Masked A) : Type 0 where
 pub last-one : {A : Type 0} (c : Codec A) → OneForm c → MaskedOne (last c)
 last-one c one = record { at = optional-one c one }
 
+pub flag_at-one : {A B : Type 0} (c : Codec A) (d : Masked B) → OneForm c → MaskedOne d → (m : ℕ) → OneForm (flag_at c d m)
+flag_at-one c d first second m = seq-one (optional c (m % 2)) (λ _. d.at (m / 2)) (optional-one c first (m % 2)) (λ _. second.at (m / 2))
+
 pub flag-one : {A B : Type 0} (c : Codec A) (d : Masked B) → OneForm c → MaskedOne d → MaskedOne (flag c d)
-flag-one c d first second = record {
-  at = λ m. seq-one (optional c (m % 2)) (λ _. d.at (m / 2)) (optional-one c first (m % 2)) (λ _. second.at (m / 2));
-}
+flag-one c d first second = record { at = flag_at-one c d first second }
 
 pub masked-one : {A : Type 0} (d : Masked A) (e : leb d.top edge ≡ true) → MaskedOne d → OneForm (masked d e)
 masked-one d e one =
@@ -119,12 +120,14 @@ body_part-one (special character) = word-one
 body_part-one (special block) = word-one
 body_part-one (special socket) = nothing-one
 
+pub plain_node-one : OneForm plain_node
+plain_node-one =
+    via-one node_of node_parts node-parts (seq kind (λ k. meta then body_part k)) (λ p h. parts-node p)
+    (seq-one kind (λ k. meta then body_part k) kind-one (λ k. then-one meta (body_part k) meta-one (body_part-one k)))
+
 pub node-one : OneForm node
 unfolding node
-node-one =
-    restated-one FitsNode plain_node node-fits fits-node
-    (via-one node_of node_parts node-parts (seq kind (λ k. meta then body_part k)) (λ p h. parts-node p)
-    (seq-one kind (λ k. meta then body_part k) kind-one (λ k. then-one meta (body_part k) meta-one (body_part-one k))))
+node-one = restated-one FitsNode plain_node node-fits fits-node plain_node-one
 
 pub base-one : OneForm base
 base-one = listed-one by_number inode node inode-one node-one
@@ -159,11 +162,13 @@ pub code_part-one : (c : Option Kind) → OneForm (code_part c)
 code_part-one none = nothing-one
 code_part-one (some k) = then-one fields (change_part k) fields-one (change_part-one k)
 
+pub plain_record-one : OneForm plain_record
+plain_record-one =
+    via-one record_of record_parts record-parts (seq code code_part) (λ p h. parts-record p) (seq-one code code_part code-one code_part-one)
+
 pub layer_record-one : OneForm layer_record
 unfolding layer_record
-layer_record-one =
-    restated-one FitsRecord plain_record record-fits fits-record
-    (via-one record_of record_parts record-parts (seq code code_part) (λ p h. parts-record p) (seq-one code code_part code-one code_part-one))
+layer_record-one = restated-one FitsRecord plain_record record-fits fits-record plain_record-one
 
 pub records-one : OneForm records
 records-one = listed-one by_number inode layer_record inode-one layer_record-one
@@ -174,30 +179,37 @@ pub batch_rest-one : OneForm batch_rest
 batch_rest-one =
     then-one word _ word-one (then-one word _ word-one (then-one (between 1 5 refl) _ (between-one 1 5 refl) (then-one moment records moment-one records-one)))
 
+pub plain_batch-one : (prev : Option ℕ) → OneForm (plain_batch prev)
+plain_batch-one prev =
+    via-one batch_of batch_parts (λ b. refl) (row by_number inode batch_rest prev) (λ p h. refl)
+    (row-one by_number inode batch_rest inode-one batch_rest-one prev)
+
 pub batch_after-one : (prev : Option ℕ) → OneForm (batch_after prev)
 unfolding batch_after
 batch_after-one prev =
-    restated-one (λ b. (least prev ≤ b.id) × FitsBatch b) (plain_batch prev) (batch-fits prev) (fits-batch prev)
-    (via-one batch_of batch_parts (λ b. refl) (row by_number inode batch_rest prev) (λ p h. refl)
-    (row-one by_number inode batch_rest inode-one batch_rest-one prev))
+    restated-one (λ b. (least prev ≤ b.id) × FitsBatch b) (plain_batch prev) (batch-fits prev) (fits-batch prev) (plain_batch-one prev)
+
+pub plain_batches-one : OneForm plain_batches
+plain_batches-one =
+    tagged-one (number_to 16 refl) length (chain batch_after id_of none) (λ n l h. h.0) (number_to-one 16 refl)
+    (chain-one batch_after id_of batch_after-one none)
 
 pub batches-one : OneForm batches
 unfolding batches
-batches-one =
-    restated-one FitsBatches plain_batches batches-fit fit-batches
-    (tagged-one (number_to 16 refl) length (chain batch_after id_of none) (λ n l h. h.0) (number_to-one 16 refl)
-    (chain-one batch_after id_of batch_after-one none))
+batches-one = restated-one FitsBatches plain_batches batches-fit fit-batches plain_batches-one
 
 -- ---- the store
 
 pub next_id-one : (bs : List Batch) → OneForm (next_id bs)
 next_id-one bs = only-one (ids_below bs) inode inode-one
 
-pub store-one : OneForm store
-unfolding store
-store-one =
-    restated-one FitsStore plain_store store-fits fits-store
-    (via-one store_of store_parts (λ s. refl) (base then seq batches (λ bs. records then next_id bs then word then word then number_to 5 refl)) (λ p h. refl)
+pub plain_store-one : OneForm plain_store
+plain_store-one =
+    via-one store_of store_parts (λ s. refl) (base then seq batches (λ bs. records then next_id bs then word then word then number_to 5 refl)) (λ p h. refl)
     (then-one base _ base-one (seq-one batches (λ bs. records then next_id bs then word then word then number_to 5 refl) batches-one
     (λ bs. then-one records _ records-one (then-one (next_id bs) _ (next_id-one bs)
-    (then-one word _ word-one (then-one word (number_to 5 refl) word-one (number_to-one 5 refl))))))))
+    (then-one word _ word-one (then-one word (number_to 5 refl) word-one (number_to-one 5 refl)))))))
+
+pub store-one : OneForm store
+unfolding store
+store-one = restated-one FitsStore plain_store store-fits fits-store plain_store-one

@@ -1,4 +1,4 @@
--- Formats made of formats. Each carries the laws of the round trip.
+-- Formats made of formats. Each carries that what is written is read back; that each value has one form stands in proofs/OneForm.
 use Prim.Native.Nat.{ℕ, zero, suc, ◌≤◌}
 use Rattle.std.specs.Prelude.{◌≡◌, Bool, true, false, cond, leb, ltb, length, take, drop}
 use Rattle.std.proofs.Math.Path.{refl}

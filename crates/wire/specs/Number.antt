@@ -85,7 +85,7 @@ number-one n = ⊎_elim (λ l. rw (number_small n l) (omega arith)) (λ l. rw (n
 
 -- ---- what was written reads back
 
--- That a number which follows others is not 0 is of no use here: the list of `simp` passes `leb 0` too.
+-- It reads back by whichever test the last group passes, 0 < v or 0 ≤ v: "shortest form" matters only to `groups-forth` (proofs/NumberForms).
 groups-back : (k n : ℕ) (r : List ℕ) → n < 128 ^ suc k → groups-read (number_bytes n ++ r) k ≡ got n r
 unfolding groups-read
 groups-back zero n r h = let l : n < 128 = omega arith in rw (number_small n l) (simp (lt-ltb n 128 l))

@@ -13,6 +13,9 @@ use Rattle.image.specs.StoreLayout.{ids_below, next_id}
 use Rattle.image.proofs.OneForm.{inode-one, word-one}
 use Rattle.writers.specs.Tails.{TailParts, tail, tail_if}
 
+pub tail-one : OneForm tail
+tail-one = then-one inode _ inode-one (then-one word _ word-one (then-one word (number_to 5 refl) word-one (number_to-one 5 refl)))
+
 pub tail_if-one : (test : ℕ → Bool) → OneForm (tail_if test)
 tail_if-one test =
     then-one (only test inode) _ (only-one test inode inode-one)
