@@ -1,3 +1,2 @@
 -- Laws that the proofs of more than one function use.
 mod Replying
-mod Counting
