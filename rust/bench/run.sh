@@ -6,7 +6,8 @@ source=${1:-${APPENDFS_SRC:-$(dirname "$0")/../../../shared/docs/src}}
 APPENDFS_SRC=$(cd "$source" && pwd)
 BENCH_DATE=$(date +%Y-%m-%d)
 BENCH_MACHINE=$(sed -n 's/^model name[^:]*: //p' /proc/cpuinfo | head -n 1)
-export APPENDFS_SRC BENCH_DATE BENCH_MACHINE
+BENCH_KIT=$(rt version)
+export APPENDFS_SRC BENCH_DATE BENCH_MACHINE BENCH_KIT
 if [ -n "${APPENDFS_LAYERS_LIB:-}" ]; then
     APPENDFS_LAYERS_LIB=$(cd "$APPENDFS_LAYERS_LIB" && pwd)
     export APPENDFS_LAYERS_LIB

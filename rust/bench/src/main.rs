@@ -275,6 +275,7 @@ fn main() {
     let folder = Path::new(&folder);
     let date = std::env::var("BENCH_DATE").unwrap_or_default();
     let machine = std::env::var("BENCH_MACHINE").unwrap_or_default();
+    let kit = std::env::var("BENCH_KIT").unwrap_or_default();
     let mut measured = String::new();
     let slower = tables(&mut port, &mut measured);
     let child = plotted(&mut port, &Call::Child { inode: ROOT, name: NAME.as_bytes().to_vec() }, true);
@@ -295,6 +296,7 @@ fn main() {
     let text = include_str!("benchmarks.md")
         .replace("{date}", &date)
         .replace("{machine}", &machine)
+        .replace("{kit}", &kit)
         .replace("{slower}", &slower)
         .replace("{reader}", &reader)
         .replace("{tables}", &measured);
