@@ -113,10 +113,8 @@ fn least(img: &[u8], rows: &[u64; 105], count: usize) -> Head
     requires { Whole (sources rows.now count) }
     ensures { Least img.now (sources rows.now count) result }
 {
-    let mut i = count;
     let mut best = no_head();
-    while 0 < i {
-        i -= 1;
+    for i in (0..count).rev() {
         best = upper(img, head_of(img, source_of(rows, i)), best);
     }
     best
@@ -147,11 +145,9 @@ fn pass_all(img: &[u8], rows: &mut [u64; 105], count: usize, start: usize, lengt
     requires { Whole (sources rows.old count) }
     ensures { PassedAll img.now (sources rows.old count) start length (sources rows.new count) }
 {
-    let mut i: usize = 0;
-    while i < count {
+    for i in 0..count {
         let source = source_of(rows, i);
         set_source(rows, i, passed(img, source, start, length));
-        i += 1;
     }
 }
 

@@ -4,6 +4,3 @@ use Rattle.merge.proofs.merge.least.Given as goal
 
 abbrev pub invariant-loop-i : goal.invariant-loop-i
 invariant-loop-i l = Best l.img (sources l.rows l.count) l.i l.best
-
-abbrev pub decreases-loop-i : goal.decreases-loop-i
-decreases-loop-i l = l.i
