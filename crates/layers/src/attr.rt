@@ -65,14 +65,11 @@ pub fn shown_attr(img: &[u8], stack: InodeLayerStack, ino: u64) -> OptionAttr
     requires { Stacked img.now stack }
     ensures { attr_if result ≡ shown (attributes usual ino) img.now stack }
 {
-    let count = stack.count;
     let base = base_node(img, stack);
     let mut attr = base_attr(base, ino);
-    let mut i = 0;
-    while i < count {
+    for i in 0..stack.count {
         let entry = record_at(img, stack, i);
         attr = step_attr(entry, attr, ino);
-        i += 1;
     }
     attr
 }

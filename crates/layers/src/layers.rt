@@ -108,10 +108,8 @@ fn parent_in(img: &[u8], stack: InodeLayerStack) -> OptionU64
     requires { Stacked img.now stack }
     ensures { number_of result ≡ shown parent img.now stack }
 {
-    let mut left = stack.count;
-    while 0 < left {
-        left = left - 1;
-        let entry = record_at(img, stack, left);
+    for i in (0..stack.count).rev() {
+        let entry = record_at(img, stack, i);
         match entry {
             EntryDelta::Node(delta) => match delta {
                 NodeDelta::Directory(directory) => {
@@ -144,10 +142,8 @@ pub fn link_in(img: &[u8], stack: InodeLayerStack) -> OptionPart
     requires { Stacked img.now stack }
     ensures { textMeant img.now result ≡ shown link_text img.now stack }
 {
-    let mut left = stack.count;
-    while 0 < left {
-        left = left - 1;
-        let entry = record_at(img, stack, left);
+    for i in (0..stack.count).rev() {
+        let entry = record_at(img, stack, i);
         match entry {
             EntryDelta::Node(delta) => match delta {
                 NodeDelta::Symlink(link) => {

@@ -9,16 +9,10 @@ pub loop-i-init : goal.loop-i-init
 loop-i-init c = rise-start c.base_node-base.result c.base_node-base.ensures c.base_attr-attr.ensures
 
 pub record_at-entry-requires : goal.record_at-entry-requires
-record_at-entry-requires c = (c.requires, c.loop-i-test.true)
-
-pub overflow_add-i : goal.overflow_add-i
-overflow_add-i c = omega (arith, c.loop-i.invariant.low, c.requires.few)
-
-pub loop-i-smaller : goal.loop-i-smaller
-loop-i-smaller c = omega arith
+record_at-entry-requires c = (c.requires, omega arith)
 
 pub loop-i-preserved : goal.loop-i-preserved
-loop-i-preserved c = rise-on c.requires c.loop-i.invariant c.loop-i-test.true c.record_at-entry.ensures c.step_attr-attr.ensures
+loop-i-preserved c = rise-on c.requires c.loop-i.invariant (omega arith) c.record_at-entry.ensures c.step_attr-attr.ensures
 
 pub returns : goal.returns
-returns c = rise-end c.loop-i.invariant c.loop-i-test.false
+returns c = rise-end c.loop-i.invariant (omega arith)
