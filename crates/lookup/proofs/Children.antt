@@ -4,7 +4,6 @@ use mathlib.Core.Path.{◌≡◌, refl, sym, ap, ◌∙◌, subst}
 use mathlib.Core.List.{List}
 use mathlib.Core.Option.{Option, none, some}
 use Prim.Native.Nat.{ℕ, zero, suc, ◌+◌, ◌-◌, ◌≤◌, ◌<◌}
-use native.Mathlib.Numerals.{add-one}
 use native.Mathlib.Omega.{arith}
 use lib.ListN.{get_or}
 use denote.Enum.Declared.{tag_of}
@@ -115,10 +114,16 @@ module _ {img : List ℕ} {s : InodeLayerStack} where
 
 -- ---- the walk
 
--- The layers above name no child: the answer is that of the lowest `layer` ones.
+-- The layers above this one name no child: the answer is that of this one and those below.
 pub record Above (img : List ℕ) (s : InodeLayerStack) (name : Text) (found : OptionU64) (layer : ℕ) : Type 0 where
   pub none_yet : found ≡ N.None
-  pub low : layer ≤ s.count + 1
+  pub low : layer ≤ s.count
+  pub same : shown (child name) img s ≡ shown_under (child name) img s layer
+
+-- Nor does this one.
+pub record Passed (img : List ℕ) (s : InodeLayerStack) (name : Text) (found : OptionU64) (layer : ℕ) : Type 0 where
+  pub none_yet : found ≡ N.None
+  pub low : layer ≤ s.count
   pub same : shown (child name) img s ≡ child_under img s name layer
 
 -- The rows of a layer that were passed neither: it is that of the rows left, or of the layers below.
@@ -130,35 +135,38 @@ pub record Within (img : List ℕ) (s : InodeLayerStack) (name : Text) (found : 
   pub same : shown (child name) img s ≡ meet (λ inode x. some inode) has (child_under img s name layer)
 
 module _ {img : List ℕ} {s : InodeLayerStack} {name : Text} where
-  pub above-start : Above img s name N.None (s.count + 1)
-  above-start = record { none_yet = refl; low = omega arith; same = rw add-one }
+  pub above-start : Above img s name N.None s.count
+  above-start = record { none_yet = refl; low = omega arith; same = refl }
 
   module _ {found : OptionU64} {layer : ℕ} (w : Above img s name found layer) where
-    pub above-end : layer ≤ 0 → number_of found ≡ shown (child name) img s
-    above-end h = let z : layer ≡ 0 = omega arith in rw (w.none_yet, w.same, z)
+    pub above-decided : EntriesAt img s name layer P.None → number_of found ≡ shown (child name) img s
+    above-decided e = rw (w.none_yet, w.same) (sym e)
 
-    module _ (h : 0 < layer) where
-      pub above-decided : EntriesAt img s name (layer - 1) P.None → number_of found ≡ shown (child name) img s
-      above-decided e = rw (w.none_yet, w.same, under-is img s name layer h) (sym e)
-
-      pub above-into : {p : Part} {r : Rows} → EntriesAt img s name (layer - 1) (P.Some p) → ListRows img U.Inode p r → Within img s name found (layer - 1) r.first r.count
-      above-into {p} e l =
-          record { none_yet = w.none_yet; low = omega (arith, w.low); has = get by_bytes name (list_at img U.Inode p); seeks = seeks-list p l; same = w.same ∙ under-is img s name layer h ∙ e.1 }
+    pub above-into : {p : Part} {r : Rows} → EntriesAt img s name layer (P.Some p) → ListRows img U.Inode p r → Within img s name found layer r.first r.count
+    above-into {p} e l =
+        record { none_yet = w.none_yet; low = w.low; has = get by_bytes name (list_at img U.Inode p); seeks = seeks-list p l; same = w.same ∙ e.1 }
 
   module _ {found : OptionU64} {layer here left : ℕ} (w : Within img s name found layer here left) where
-    below : w.has ≡ none → Above img s name found layer
-    below e = record { none_yet = w.none_yet; low = omega (arith, w.low); same = rw e at w.same }
+    below : w.has ≡ none → Passed img s name found layer
+    below e = record { none_yet = w.none_yet; low = w.low; same = rw e at w.same }
 
-    pub within_end : left ≤ 0 → Above img s name found layer
+    pub within_end : left ≤ 0 → Passed img s name found layer
     within_end h = below (seeks-end w.seeks h)
 
     module _ {r : RowRead} (h : 0 < left) (g : ReadsRow img U.Inode here r) where
       pub within_on : by_bytes.cmp (row_name img r) name ≡ Less → Within img s name found layer r.next (left - 1)
       within_on e = record { none_yet = w.none_yet; low = w.low; has = w.has; seeks = seeks-on w.seeks h g e; same = w.same }
 
-      pub within-past : by_bytes.cmp (row_name img r) name ≡ Greater → Above img s name found layer
+      pub within-past : by_bytes.cmp (row_name img r) name ≡ Greater → Passed img s name found layer
       within-past e = below (seeks-past w.seeks h g e)
 
       -- the inode under the name is the child
       pub within-here : by_bytes.cmp (row_name img r) name ≡ Equal → {n : ℕ} {next : Cursor} → Answers img (number_read edge) (At r.under) 0 n next → some n ≡ shown (child name) img s
       within-here e a = rw (read_same g.held a.reads) (sym (rw (seeks-here w.seeks h g e) at w.same))
+
+  module _ {found : OptionU64} {layer : ℕ} (w : Passed img s name found layer) where
+    pub passed-on : 0 < layer → Above img s name found (layer - 1)
+    passed-on h = record { none_yet = w.none_yet; low = omega (arith, w.low); same = w.same ∙ under-is img s name layer h }
+
+    pub passed-last : layer ≤ 0 → number_of found ≡ shown (child name) img s
+    passed-last h = let z : layer ≡ 0 = omega arith in rw (w.none_yet, w.same, z)

@@ -45,17 +45,14 @@ fn child_in(img: &[u8], stack: InodeLayerStack, name: &[u8]) -> OptionU64
     ensures { number_of result ≡ shown (child name.now) img.now stack }
 {
     let mut found = OptionU64::None;
-    let mut layer = stack.count + 1;
-    'layers: while 0 < layer {
-        layer -= 1;
+    'layers: for layer in (0..=stack.count).rev() {
         let names = entries_at(img, stack, layer, name);
         let OptionPart::Some(list) = names else {
             break 'layers;
         };
         let rows = rows_of(img, list, Under::Inode);
         let mut here = rows.first;
-        let mut left = rows.count;
-        while 0 < left {
+        for _ in 0..rows.count {
             let row = read_row(img, here, Under::Inode);
             match compare_part(img, row.start, row.length, name) {
                 Ordering::Less => {}
@@ -67,7 +64,6 @@ fn child_in(img: &[u8], stack: InodeLayerStack, name: &[u8]) -> OptionU64
                 Ordering::Greater => break,
             }
             here = row.next;
-            left -= 1;
         }
     }
     found

@@ -65,8 +65,7 @@ pub fn find_name(img: &[u8], list: Part, what: Under, name: &[u8]) -> Place
 {
     let rows = rows_of(img, list, what);
     let mut here = rows.first;
-    let mut left = rows.count;
-    while 0 < left {
+    for _ in 0..rows.count {
         let row = read_row(img, here, what);
         match compare_part(img, row.start, row.length, name) {
             Ordering::Less => {}
@@ -74,7 +73,6 @@ pub fn find_name(img: &[u8], list: Part, what: Under, name: &[u8]) -> Place
             Ordering::Greater => return Place::Nowhere,
         }
         here = row.next;
-        left = left - 1;
     }
     Place::Nowhere
 }

@@ -1,11 +1,18 @@
 use mathlib.Core.Path.{sym, ◌∙◌}
+use native.Mathlib.Nat.{sub-add-eq, sub-zero}
 use native.Mathlib.Omega.{arith}
 use Rattle.lookup.proofs.Searching.{row-there}
-use Rattle.lookup.proofs.Children.{above-start, above-end, above-decided, above-into, within_end, within_on, within-past, within-here}
+use Rattle.lookup.proofs.Children.{above-start, above-decided, above-into, within_end, within_on, within-past, within-here, Passed, passed-on, passed-last}
 use Rattle.lookup.proofs.child.child_in.Goals as goal
+use Rattle.lookup.proofs.child.child_in.Goals.{Left-loop, else-loop-test, then-loop-test+in-Greater}
 
-pub overflow_add-layer : goal.overflow_add-layer
-overflow_add-layer c = omega (arith, c.requires.few)
+-- a layer's rows end, or one is greater than the name
+passed : (c : Left-loop) → Passed c.args.img.now c.args.stack c.args.name.now c.loop.found-1 c.layers.layer
+passed c =
+    elim c.loop-test.branch [
+      | else-loop-test w ↦ within_end c.loop.invariant (omega arith)
+      | then-loop-test+in-Greater w ↦ within-past c.loop.invariant (omega arith) w.read_row-row.ensures (sym w.compare_part.ensures ∙ w.in-Greater.is)
+    ]
 
 pub layers-init : goal.layers-init
 layers-init c = above-start
@@ -16,26 +23,23 @@ entries_at-names-requires c = (c.requires, omega (arith, c.layers.invariant.low)
 pub rows_of-rows-requires : goal.rows_of-rows-requires
 rows_of-rows-requires c = (rw c.in-Some.is at c.entries_at-names.ensures).0
 
-pub loop-left-init : goal.loop-left-init
-loop-left-init c = above-into c.layers.invariant c.layers-test.true (rw c.in-Some.is at c.entries_at-names.ensures) c.rows_of-rows.ensures
-
-pub layers-preserved-in-loop-left : goal.layers-preserved-in-loop-left
-layers-preserved-in-loop-left c = within_end c.loop-left.invariant c.loop-left-test.false
+pub loop-init : goal.loop-init
+loop-init c = rw sub-zero (above-into c.layers.invariant (rw c.in-Some.is at c.entries_at-names.ensures) c.rows_of-rows.ensures)
 
 pub read_row-row-requires : goal.read_row-row-requires
-read_row-row-requires c = row-there c.loop-left-test.true c.loop-left.invariant.seeks.standing
+read_row-row-requires c = row-there (omega arith) c.loop.invariant.seeks.standing
 
 pub layers-preserved : goal.layers-preserved
-layers-preserved c = within-past c.loop-left.invariant c.loop-left-test.true c.read_row-row.ensures (sym c.compare_part.ensures ∙ c.in-Greater.is)
+layers-preserved c = passed-on (passed (goal.at.layers-preserved c).Left-loop) (omega arith)
 
-pub loop-left-preserved : goal.loop-left-preserved
-loop-left-preserved c = within_on c.loop-left.invariant c.loop-left-test.true c.read_row-row.ensures (sym c.compare_part.ensures ∙ c.in-Less.is)
+pub loop-preserved : goal.loop-preserved
+loop-preserved c = rw sub-add-eq (within_on c.loop.invariant (omega arith) c.read_row-row.ensures (sym c.compare_part.ensures ∙ c.in-Less.is))
 
-pub returns-after-layers : goal.returns-after-layers
-returns-after-layers c = above-end c.layers.invariant c.layers-test.false
+pub returns-in-Some : goal.returns-in-Some
+returns-in-Some c = passed-last (passed (goal.at.returns-in-Some c).Left-loop) (omega arith)
 
 pub returns-in_default : goal.returns-in_default
-returns-in_default c = above-decided c.layers.invariant c.layers-test.true (rw c.in_default.is at c.entries_at-names.ensures)
+returns-in_default c = above-decided c.layers.invariant (rw c.in_default.is at c.entries_at-names.ensures)
 
 pub returns-in-Equal : goal.returns-in-Equal
-returns-in-Equal c = within-here c.loop-left.invariant c.loop-left-test.true c.read_row-row.ensures (sym c.compare_part.ensures ∙ c.in-Equal.is) c.read_number-inode.ensures
+returns-in-Equal c = within-here c.loop.invariant (omega arith) c.read_row-row.ensures (sym c.compare_part.ensures ∙ c.in-Equal.is) c.read_number-inode.ensures
