@@ -68,10 +68,8 @@ pub fn xattr_in(img: &[u8], stack: InodeLayerStack, name: &[u8]) -> OptionPart
     requires { Stacked img.now stack }
     ensures { textMeant img.now result ≡ shown (attribute name.now) img.now stack }
 {
-    let mut left = stack.count;
-    while 0 < left {
-        left = left - 1;
-        let change = xattr_at(img, stack, left, name);
+    for i in (0..stack.count).rev() {
+        let change = xattr_at(img, stack, i, name);
         match change {
             XattrChange::Set(value) => return OptionPart::Some(value),
             XattrChange::Removed => return OptionPart::None,
