@@ -137,9 +137,7 @@ pub fn gather_sources(img: &[u8], stack: InodeLayerStack, lists: Lists) -> Sourc
 {
     let mut rows = [0u64; 105];
     let mut count: usize = 0;
-    let mut i = stack.count;
-    while 0 < i {
-        i -= 1;
+    for i in (0..stack.count).rev() {
         let record = record_at(img, stack, i);
         if is_tombstone(record) {
             return Sources { rows, count };

@@ -16,9 +16,6 @@ returns-then-is_tombstone c = gathering-end c.requires (omega arith) c.loop-i.in
 pub push_lists-count-requires : goal.push_lists-count-requires
 push_lists-count-requires c = (omega (arith, many-two c.record_lists.result, c.loop-i.invariant.few, c.requires.few), c.loop-i.invariant.whole.wide)
 
-pub loop-i-smaller : goal.loop-i-smaller
-loop-i-smaller c = omega arith
-
 pub loop-i-preserved : goal.loop-i-preserved
 loop-i-preserved c = gathering-more c.requires (omega arith) c.loop-i.invariant c.record_at-record.ensures (sym c.is_tombstone.ensures ∙ c.if-is_tombstone.false) (rw c.record_lists.ensures at (c.push_lists-count.ensures c.args.img.now))
 

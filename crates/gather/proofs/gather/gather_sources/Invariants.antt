@@ -4,6 +4,3 @@ use Rattle.gather.proofs.gather.gather_sources.Given as goal
 
 abbrev pub invariant-loop-i : goal.invariant-loop-i
 invariant-loop-i l = Gathering l.img l.stack l.lists (sources l.rows l.count) l.i
-
-abbrev pub decreases-loop-i : goal.decreases-loop-i
-decreases-loop-i l = l.i
