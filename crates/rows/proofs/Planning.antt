@@ -2,7 +2,7 @@
 -- Assumes nothing.
 use mathlib.Core.Path.{◌≡◌, refl, sym, ap, ◌∙◌}
 use mathlib.Core.Bool.{Bool, true, false, cond}
-use mathlib.Core.List.{List, [], ◌∷◌, ◌++◌, map, append_assoc}
+use mathlib.Core.List.{List, [], ◌∷◌, ◌++◌, map, append_assoc, append-nil}
 use Prim.Native.Nat.{ℕ, suc, ◌+◌, ◌≤◌, ◌<◌}
 use native.Mathlib.Omega.{arith}
 use native.Mathlib.Numerals.{add-one}
@@ -92,6 +92,12 @@ module _ (new old : List Entry) where
       let z : get_or new i e ≡ e = cc in
       let o = drop-cons old i e (omega arith) in
       rw (o, add-one, take-suc new i e h, z) (set_at (take i new) (get_or old i e) (drop (suc i) old) e i (length-take-le i new (omega arith)) ∙ sym (append_assoc (take i new) (e ∷ []) (drop (suc i) old)))
+
+  -- the first n are filled, where only they were lent
+  pub filled_first : {n i : ℕ} {rows : List Entry} → length (take n old) ≡ n → rows ≡ take i new ++ drop i (take n old) → i ≡ n → rows ++ drop n old ≡ filled_to n
+  filled_first {n} {i} {rows} many e z =
+      let none : drop i (take n old) ≡ [] = drop_of_length-le (take n old) (omega arith) in
+      rw (e, none, append-nil, z) refl
 
 -- the rows from the i-th on are left
 pub record Going (img : List ℕ) (es : List Entry) (i : ℕ) (p : Plan) : Type 0 where

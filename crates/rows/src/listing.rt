@@ -138,11 +138,9 @@ fn fill_rows(img: &[u8], plan: Plan, rows: &mut [Entry]) -> RowsAnswer
 {
     let count = row_count(plan);
     let mut rest = plan;
-    let mut i: usize = 0;
-    while i < count {
-        rows[i] = row_of(rest);
+    for row in rows[..count].iter_mut() {
+        *row = row_of(rest);
         rest = next_row(img, rest);
-        i += 1;
     }
     answer_of(plan)
 }
