@@ -146,13 +146,10 @@ pub fn folded_node(img: &[u8], stack: InodeLayerStack) -> OptionFolded
     requires { Stacked img.now stack }
     ensures { ShowsIf img.now result (folded_in img.now stack) }
 {
-    let count = stack.count;
     let mut node = fold_base(base_node(img, stack));
-    let mut i = 0;
-    while i < count {
+    for i in 0..stack.count {
         let entry = record_at(img, stack, i);
         node = fold_record(entry, node);
-        i += 1;
     }
     node
 }

@@ -7,10 +7,6 @@ pub loop-i-init : goal.loop-i-init
 loop-i-init c = rising-base c.base_node.ensures c.fold_base-node.ensures
 
 -- src/folded.rt:161:5
-pub loop-i-smaller : goal.loop-i-smaller
-loop-i-smaller c = omega arith
-
--- src/folded.rt:161:5
 pub loop-i-preserved : goal.loop-i-preserved
 loop-i-preserved c = rising-more c.requires c.loop-i.invariant (omega arith) c.record_at-entry.ensures c.fold_record-node.ensures
 
