@@ -34,9 +34,8 @@ pub fn cut_records(img: &[u8], at: usize, ino: u64) -> Cut
 fn cut_rows(img: &[u8], first: usize, count: u64, ino: u64) -> Cut
     ensures { Cuts by_number inode layer_record img.now first count ino result }
 {
-    let mut left = count;
     let mut row = first;
-    while 0 < left {
+    for _ in 0..count {
         let inode = read_number(img, Cursor::At(row), 0xFFFF_FFFF_FFFF_FFFF);
         if ino < inode.value {
             break;
@@ -54,7 +53,6 @@ fn cut_rows(img: &[u8], first: usize, count: u64, ino: u64) -> Cut
             };
         }
         row = after;
-        left = left - 1;
     }
     Cut {
         count,

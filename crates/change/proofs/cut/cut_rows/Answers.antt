@@ -1,3 +1,4 @@
+use native.Mathlib.Nat.{sub-add-eq, sub-zero}
 use native.Mathlib.Omega.{arith}
 use Rattle.change.proofs.Cutting.{cut-start, cut-over, cut-found, cut_on, cut-end}
 use Rattle.wire.specs.Orders.{by_number, less-N, equal-N, greater-N}
@@ -5,17 +6,17 @@ use Rattle.image.specs.FieldLayout.{inode}
 use Rattle.image.specs.RecordLayout.{layer_record}
 use Rattle.change.proofs.cut.cut_rows.Goals as goal
 
-pub loop-left-init : goal.loop-left-init
-loop-left-init c = cut-start by_number inode layer_record
+pub loop-init : goal.loop-init
+loop-init c = rw sub-zero (cut-start by_number inode layer_record)
 
 pub returns-then-inode-ino : goal.returns-then-inode-ino
-returns-then-inode-ino c = rw (c.place_at-after.ensures, c.place_at.ensures) (cut-found by_number inode layer_record c.loop-left.invariant (omega arith) _ c.read_number-inode.ensures.reads _ c.pass_record-next.ensures (equal-N c.args.ino c.read_number-inode.result.value (omega arith) (omega arith)))
+returns-then-inode-ino c = rw (c.place_at-after.ensures, c.place_at.ensures) (cut-found by_number inode layer_record c.loop.invariant (omega arith) _ c.read_number-inode.ensures.reads _ c.pass_record-next.ensures (equal-N c.args.ino c.read_number-inode.result.value (omega arith) (omega arith)))
 
-pub loop-left-preserved : goal.loop-left-preserved
-loop-left-preserved c = rw c.place_at-after.ensures (cut_on by_number inode layer_record c.loop-left.invariant (omega arith) _ c.read_number-inode.ensures.reads _ c.pass_record-next.ensures (greater-N c.args.ino c.read_number-inode.result.value (omega arith)))
+pub loop-preserved : goal.loop-preserved
+loop-preserved c = rw (sub-add-eq, c.place_at-after.ensures) (cut_on by_number inode layer_record c.loop.invariant (omega arith) _ c.read_number-inode.ensures.reads _ c.pass_record-next.ensures (greater-N c.args.ino c.read_number-inode.result.value (omega arith)))
 
-pub returns-after-loop-left : goal.returns-after-loop-left
-returns-after-loop-left c = cut-end by_number inode layer_record c.loop-left.invariant (omega arith)
+pub returns-after-loop : goal.returns-after-loop
+returns-after-loop c = cut-end by_number inode layer_record c.loop.invariant (omega arith)
 
 pub returns-then-ino-inode : goal.returns-then-ino-inode
-returns-then-ino-inode c = cut-over by_number inode layer_record c.loop-left.invariant (omega arith) _ c.read_number-inode.ensures.reads (less-N c.args.ino c.read_number-inode.result.value (omega arith))
+returns-then-ino-inode c = cut-over by_number inode layer_record c.loop.invariant (omega arith) _ c.read_number-inode.ensures.reads (less-N c.args.ino c.read_number-inode.result.value (omega arith))
