@@ -51,11 +51,9 @@ pub fn open_layers(img: &[u8], sections: Sections, n: u64) -> Layers
     let mut top = end;
     let mut runs = [0u64; 72];
     set_run(&mut runs, 0, run_at(img, 0, Held::Node));
-    let mut i: u64 = 0;
-    while i < n {
+    for i in 0..n {
         top = records_of(img, end, i < batches);
-        i += 1;
-        set_run(&mut runs, i as usize, run_at(img, top, Held::Record));
+        set_run(&mut runs, i as usize + 1, run_at(img, top, Held::Record));
         end = records_end(img, top);
     }
     let walk = Walk {

@@ -59,9 +59,7 @@ fn least_inode(runs: &[u64; 72], count: usize) -> First
     };
     let base = run_of(runs, 0);
     let mut best = lower(none, base);
-    let mut i: usize = 0;
-    while i < count {
-        i += 1;
+    for i in 1..=count {
         let run = run_of(runs, i);
         best = lower(best, run);
     }
@@ -85,9 +83,7 @@ fn take_stack(img: &[u8], runs: &mut [u64; 72], count: usize, inode: u64) -> Ste
         deltas: [0; 17],
         count: 0,
     };
-    let mut i: usize = 0;
-    while i < count {
-        i += 1;
+    for i in 1..=count {
         let run = run_of(runs, i);
         top = has_inode(run, inode);
         if top {
