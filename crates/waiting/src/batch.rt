@@ -29,11 +29,10 @@ fn total_batches(img: &[u8], first: usize, count: u64) -> Queue
     requires { count ≤ 16 }
     ensures { Totalled img.now first count result }
 {
-    let mut left = count;
     let mut here = first;
     let mut bytes: u64 = 0;
     let mut operations: u64 = 0;
-    while 0 < left {
+    for _ in 0..count {
         let batch = pass_batch(img, Cursor::At(here));
         let next = batch.next;
         let Cursor::At(end) = next else {
@@ -48,7 +47,6 @@ fn total_batches(img: &[u8], first: usize, count: u64) -> Queue
         bytes = bytes + (head.bytes as u64);
         operations = operations + (head.operations as u64);
         here = end;
-        left = left - 1;
     }
     Queue {
         first,
