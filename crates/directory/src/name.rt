@@ -105,9 +105,8 @@ pub fn cut_names(img: &[u8], at: usize, what: Under, name: &[u8]) -> Cut
 fn cut_named(img: &[u8], first: usize, count: u64, what: Under, name: &[u8]) -> Cut
     ensures { Cuts by_bytes nameText (under what) img.now first count name.now result }
 {
-    let mut left = count;
     let mut row = first;
-    while 0 < left {
+    for _ in 0..count {
         let text = read_text(img, Cursor::At(row), 1, 255);
         let start = text.next;
         let next = pass_under(img, start, what);
@@ -126,7 +125,6 @@ fn cut_named(img: &[u8], first: usize, count: u64, what: Under, name: &[u8]) -> 
             Ordering::Greater => break,
         }
         row = after;
-        left = left - 1;
     }
     Cut {
         count,
