@@ -32,9 +32,7 @@ pub fn names_in(img: &[u8], stack: InodeLayerStack) -> Sources
 {
     let mut rows = [0u64; 105];
     let mut count: usize = 0;
-    let mut i = stack.count;
-    while 0 < i {
-        i -= 1;
+    for i in (0..stack.count).rev() {
         let entry = record_at(img, stack, i);
         let EntryDelta::Node(delta) = entry else {
             return Sources { rows, count };

@@ -118,17 +118,15 @@ fn put_kept(buf: &mut [u8], at: usize, img: &[u8], list: Part, what: Under, merg
 {
     let rows = rows_of(img, list, what);
     let mut here = rows.first;
-    let mut left = rows.count;
     let mut rest = merge;
     let mut kept = Kept { at, count: 0 };
-    while 0 < left {
+    for _ in 0..rows.count {
         let row = read_row(img, here, what);
         rest = seek(img, rest, row.start, row.length);
         let below = leads_to(img, rest, row.start, row.length);
         let stays = is_kept(img, what, below, row.under);
         kept = put_row(buf, kept, img, here, row.next, stays);
         here = row.next;
-        left -= 1;
     }
     kept
 }

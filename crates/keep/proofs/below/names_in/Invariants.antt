@@ -4,6 +4,3 @@ use Rattle.keep.proofs.below.names_in.Given as goal
 
 abbrev pub invariant-loop-i : goal.invariant-loop-i
 invariant-loop-i l = Leading l.img l.stack (sources l.rows l.count) l.i
-
-abbrev pub decreases-loop-i : goal.decreases-loop-i
-decreases-loop-i l = l.i
