@@ -22,11 +22,9 @@ pub fn signed(rt: &impl Print, value: i64) -> io::Result<()> {
 }
 
 pub fn hex(rt: &impl Print, bytes: &[u8]) -> io::Result<()> {
-    let mut i = 0;
-    while i < bytes.len() {
-        nibble(rt, bytes[i] / 16)?;
-        nibble(rt, bytes[i] % 16)?;
-        i += 1;
+    for byte in bytes {
+        nibble(rt, *byte / 16)?;
+        nibble(rt, *byte % 16)?;
     }
     Ok(())
 }

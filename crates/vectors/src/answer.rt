@@ -139,13 +139,9 @@ fn stack(rt: &impl Print, found: InodeLayerStack) -> io::Result<()> {
         Place::Nowhere => show::text(rt, b"-")?,
     }
     let deltas = found.deltas;
-    let mut i = 0;
-    while i < 17 {
-        if i < found.count {
-            show::text(rt, b" ")?;
-            show::number(rt, deltas[i] as u64)?;
-        }
-        i += 1;
+    for delta in deltas.iter().take(found.count) {
+        show::text(rt, b" ")?;
+        show::number(rt, *delta as u64)?;
     }
     Ok(())
 }

@@ -97,18 +97,13 @@ fn shown(
     inodes: bool,
 ) -> io::Result<()> {
     let rows = listed.rows;
-    let mut i = 0;
-    while i < 16 {
-        if i < count {
-            let row = rows[i];
-            show::text(rt, b" ")?;
-            show::word(rt, part(img, row.start, row.length))?;
-            if inodes {
-                show::text(rt, b":")?;
-                show::number(rt, row.inode)?;
-            }
+    for row in rows.iter().take(count) {
+        show::text(rt, b" ")?;
+        show::word(rt, part(img, row.start, row.length))?;
+        if inodes {
+            show::text(rt, b":")?;
+            show::number(rt, row.inode)?;
         }
-        i += 1;
     }
     Ok(())
 }

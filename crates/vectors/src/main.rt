@@ -26,7 +26,6 @@ mod reads;
 
 use answer::answer;
 use input::fill;
-use script::line::find;
 use std::io;
 
 fn main(rt: HostRuntime) -> io::Result<()> {
@@ -36,11 +35,8 @@ fn main(rt: HostRuntime) -> io::Result<()> {
 }
 
 fn replay(rt: &impl Print, list: &[u8]) -> io::Result<()> {
-    let mut at = 0;
-    while at < list.len() {
-        let end = find(list, at, b'\n');
-        answer(rt, &list[at..end])?;
-        at = end + 1;
+    for line in list.split_inclusive(|byte| *byte == b'\n') {
+        answer(rt, line.strip_suffix(b"\n").unwrap_or(line))?;
     }
     Ok(())
 }
