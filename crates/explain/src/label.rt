@@ -31,9 +31,8 @@ pub fn label_layers(img: &[u8], ino: u64) -> Labels
     let mut at = count.next;
     let mut ids = [0u64; 17];
     let mut places = [0usize; 17];
-    let mut i: usize = 0;
     let batches = count.value as usize;
-    while i < batches {
+    for i in 0..batches {
         let read = read_batch_head(img, at);
         let head = read.head;
         let records = read.next;
@@ -42,11 +41,10 @@ pub fn label_layers(img: &[u8], ino: u64) -> Labels
         ids[i] = head.id;
         places[i] = place_or_0(place);
         at = found.next;
-        i += 1;
     }
     let live = find_inode(img, at, Held::Record, ino);
     let place = live.place;
-    places[i] = place_or_0(place);
+    places[batches] = place_or_0(place);
     Labels {
         ids,
         places,

@@ -66,9 +66,8 @@ fn read_decimal(text: &[u8]) -> Decimal {
         return Decimal::NoNumber;
     }
     let mut sum: u64 = 0;
-    let mut i = 0;
-    while i < text.len() {
-        let digit = digit_of(text[i]);
+    for byte in text {
+        let digit = digit_of(*byte);
         if 9 < digit {
             return Decimal::NoNumber;
         }
@@ -76,7 +75,6 @@ fn read_decimal(text: &[u8]) -> Decimal {
             return Decimal::NoNumber;
         }
         sum = sum * 10 + digit;
-        i += 1;
     }
     Decimal::Number(sum)
 }
@@ -138,9 +136,7 @@ fn write_layers(
     requires { Stacked img.now stack × (labels.batches ≤ 16) }
 {
     let mut left = stack.count;
-    let mut layer = labels.batches + 1;
-    while 0 < layer {
-        layer -= 1;
+    for layer in (0..=labels.batches).rev() {
         write_label(rt, labels, layer)?;
         left = write_layer(rt, img, stack, name, labels.places[layer], left, decides)?;
     }

@@ -188,12 +188,15 @@ module _ {img : List ℕ} {s : InodeLayerStack} {name : Text} {layer : ℕ} (w :
       looked = w.looked ∙ rw here at k.looked ∙ rw e;
     }
 
-    pub decides-here : Speaks r → Decides img s name layer
+    decides-here : Speaks r → Decides img s name layer
     decides-here t = record { low = w.low; above = w.above; speaks = go layer (rw here at k.itself); looked = w.looked }
       where
         go : (n : ℕ) → r ≡ says_at img s name n → SpeaksAt img s name n
         go zero e = tt
         go (suc n) e = subst Speaks e t
+
+    pub decides-next : Speaks r → Decides img s name (layer - 1 + 1)
+    decides-next t = rw here (decides-here t)
 
 -- the lookup's answer is what the layer that decides says
 pub decided : (img : List ℕ) (s : InodeLayerStack) (name : Text) (i : ℕ) (r : Said) → Decides img s name (i + 1) → SaysRecord img s name i r → Speaks r

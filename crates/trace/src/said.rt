@@ -81,15 +81,12 @@ pub fn deciding(img: &[u8], stack: InodeLayerStack, name: &[u8]) -> usize
     requires { Stacked img.now stack }
     ensures { Decides img.now stack name.now result }
 {
-    let mut layer = stack.count;
-    while 0 < layer {
-        let said = says_at(img, stack, layer - 1, name);
-        match said {
+    for i in (0..stack.count).rev() {
+        match says_at(img, stack, i, name) {
             Said::Nothing => {}
-            Said::NoChild => return layer,
-            Said::Child(_) => return layer,
+            Said::NoChild => return i + 1,
+            Said::Child(_) => return i + 1,
         }
-        layer = layer - 1;
     }
     0
 }

@@ -2,7 +2,4 @@ use Prim.Native.Nat.{◌≤◌}
 use Rattle.explain.proofs.write_layers.Given as goal
 
 abbrev pub invariant-loop-layer : goal.invariant-loop-layer
-invariant-loop-layer g l = (l.left ≤ l.stack.count) × (l.layer ≤ 17)
-
-abbrev pub decreases-loop-layer : goal.decreases-loop-layer
-decreases-loop-layer g l = l.layer
+invariant-loop-layer g l = (l.left ≤ l.stack.count) × (l.layer ≤ 16)
