@@ -1,8 +1,8 @@
 -- What a delta makes of a node's kind.
 -- Assumes nothing.
+use Rattle.std.specs.Prelude.{None, Option, Some}
 use mathlib.Core.Path.{◌≡◌, refl}
 use mathlib.Core.List.{List, [], ◌∷◌}
-use mathlib.Core.Option.{Option}
 use Prim.Native.Nat.{ℕ}
 use denote.Enum.Declared.{tag_of}
 use types.Run.{OneOf}
@@ -11,8 +11,6 @@ use Rattle.rules.specs.Fold.{given, add_all, remove_all, on_body}
 use Rattle.nodes.specs.Options.{text_at, text_of}
 use Rattle.deltas.specs.Deltas.{attr_of, change_meant}
 use Rattle.nodes.specs.declared.part.Part.{Part}
-use Rattle.nodes.specs.declared.option.OptionPart.{OptionPart}
-use Rattle.nodes.specs.declared.option.OptionPart.TheVariants as P
 use Rattle.nodes.specs.declared.attr.AttrDelta.{AttrDelta}
 use Rattle.deltas.specs.declared.delta.NodeDelta.{NodeDelta}
 use Rattle.nodes.specs.declared.node.InodeMeta.{InodeMeta}
@@ -35,7 +33,7 @@ other-parent o = one-kind not_directory (λ k. k ≡ with_parent o k) tt (λ siz
 pub other-size : (o : Option ℕ) (k : NodeKind) → OneOf not_file (tag_of kind.the_type k) → k ≡ with_size o k
 other-size o = one-kind not_file (λ k. k ≡ with_size o k) (λ parent es. refl) tt (λ target. refl) refl (λ rdev. refl) (λ rdev. refl) refl
 
-pub other-target : (o : OptionPart) (k : NodeKind) → OneOf not_symlink (tag_of kind.the_type k) → k ≡ with_target o k
+pub other-target : (o : Option Part) (k : NodeKind) → OneOf not_symlink (tag_of kind.the_type k) → k ≡ with_target o k
 other-target o = one-kind not_symlink (λ k. k ≡ with_target o k) (λ parent es. refl) (λ size. refl) tt refl (λ rdev. refl) (λ rdev. refl) refl
 
 abbrev is_special : List ℕ
@@ -66,11 +64,11 @@ on-file img o es (K.CharDevice rdev) = refl
 on-file img o es (K.BlockDevice rdev) = refl
 on-file img o es K.Socket = refl
 
-text-or : (img : List ℕ) (o : OptionPart) (t : Part) → text_at img (part_or o t) ≡ given (text_of img o) (text_at img t)
-text-or img (P.Some p) t = refl
-text-or img P.None t = refl
+text-or : (img : List ℕ) (o : Option Part) (t : Part) → text_at img (part_or o t) ≡ given (text_of img o) (text_at img t)
+text-or img (Some p) t = refl
+text-or img None t = refl
 
-pub on-symlink : (img : List ℕ) (o : OptionPart) (es : Entries) (k : NodeKind) → body_with img (with_target o k) es ≡ on_body (symlink (text_of img o)) (body_with img k es)
+pub on-symlink : (img : List ℕ) (o : Option Part) (es : Entries) (k : NodeKind) → body_with img (with_target o k) es ≡ on_body (symlink (text_of img o)) (body_with img k es)
 on-symlink img o es (K.Directory parent p) = refl
 on-symlink img o es (K.File size) = refl
 on-symlink img o es (K.Symlink t) = rw (text-or img o t)

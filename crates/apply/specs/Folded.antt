@@ -1,7 +1,6 @@
 -- What fold makes of a node by value; its attributes and entries are lists beside it. Document 01: "Delta on nothing: a node of initial values
 -- (parent 1, empty target), then applied. Delta of the node's kind: applied; created time is dropped, device kept."
-use Rattle.std.specs.Prelude.{◌≡◌, List, ℕ}
-use Rattle.std.proofs.Math.Option.{Option}
+use Rattle.std.specs.Prelude.{◌≡◌, List, ℕ, None, Option, Some}
 use Rattle.wire.specs.Orders.{by_bytes}
 use Rattle.wire.specs.Maps.{meet, empty}
 use Rattle.image.specs.Meaning as M
@@ -14,8 +13,6 @@ use Rattle.nodes.specs.Listed.{list_of}
 use Rattle.nodes.specs.Attrs.{fields_meant}
 use Rattle.deltas.specs.Deltas.{attr_of, change_meant, delta_meant}
 use Rattle.nodes.specs.declared.part.Part.{Part}
-use Rattle.nodes.specs.declared.option.OptionPart.{OptionPart}
-use Rattle.nodes.specs.declared.option.OptionPart.TheVariants as P
 use Rattle.nodes.specs.declared.attr.AttrDelta.{AttrDelta}
 use Rattle.deltas.specs.declared.delta.NodeDelta.{NodeDelta}
 use Rattle.nodes.specs.declared.node.InodeMeta.{InodeMeta}
@@ -52,9 +49,9 @@ on_entries (special s device) es = es
 
 -- ---- what the code makes of a node
 
-abbrev pub part_or : OptionPart → Part → Part
-part_or (P.Some p) q = p
-part_or P.None q = q
+abbrev pub part_or : Option Part → Part → Part
+part_or (Some p) q = p
+part_or None q = q
 
 abbrev pub with_parent : Option ℕ → NodeKind → NodeKind
 with_parent o (K.Directory parent p) = K.Directory (given o parent) p
@@ -74,7 +71,7 @@ with_size o (K.CharDevice rdev) = K.CharDevice rdev
 with_size o (K.BlockDevice rdev) = K.BlockDevice rdev
 with_size o K.Socket = K.Socket
 
-abbrev pub with_target : OptionPart → NodeKind → NodeKind
+abbrev pub with_target : Option Part → NodeKind → NodeKind
 with_target o (K.Directory parent p) = K.Directory parent p
 with_target o (K.File size) = K.File size
 with_target o (K.Symlink t) = K.Symlink (part_or o t)

@@ -1,7 +1,6 @@
 // What fold makes of a node by value. Its attributes and entries are lists beside it.
 ghost use Rattle.std.specs.Prelude.{◌≡◌};
 ghost use Rattle.rules.specs.Fold.{given};
-ghost use Rattle.nodes.specs.Options.{number_of};
 ghost use Rattle.apply.specs.Folded.{part_or, with_parent, with_size, with_target, FirstMeta, AppliesMeta, FirstKind, AppliesKind, FirstNode, AppliesNode};
 
 use attrs::attr::{epoch, initial_nlink, initial_perm, mode_or, time_or, u32_or};
@@ -10,7 +9,6 @@ use deltas::delta::{NodeDelta, attr_delta};
 use merge::source::no_value;
 use nodes::attr::AttrDelta;
 use nodes::node::{InodeMeta, Node, NodeKind};
-use nodes::option::{OptionPart, OptionU64};
 use nodes::part::Part;
 
 // The initial permission and links of a delta's kind; owner, group and times are 0.
@@ -73,27 +71,27 @@ fn initial_kind(delta: NodeDelta) -> NodeKind
     }
 }
 
-fn u64_or(option: OptionU64, old: u64) -> u64
-    ensures { result ≡ given (number_of option) old }
+fn u64_or(option: Option<u64>, old: u64) -> u64
+    ensures { result ≡ given option old }
 {
     match option {
-        OptionU64::Some(new) => new,
-        OptionU64::None => old,
+        Some(new) => new,
+        None => old,
     }
 }
 
-fn part_or(option: OptionPart, old: Part) -> Part
+fn part_or(option: Option<Part>, old: Part) -> Part
     ensures { result ≡ part_or option old }
 {
     match option {
-        OptionPart::Some(new) => new,
-        OptionPart::None => old,
+        Some(new) => new,
+        None => old,
     }
 }
 
 // A directory with the parent, if there is one.
-fn with_parent(kind: NodeKind, option: OptionU64) -> NodeKind
-    ensures { result ≡ with_parent (number_of option) kind }
+fn with_parent(kind: NodeKind, option: Option<u64>) -> NodeKind
+    ensures { result ≡ with_parent option kind }
 {
     match kind {
         NodeKind::Directory { parent, entries } => NodeKind::Directory {
@@ -105,8 +103,8 @@ fn with_parent(kind: NodeKind, option: OptionU64) -> NodeKind
 }
 
 // A file with the size, if there is one.
-fn with_size(kind: NodeKind, option: OptionU64) -> NodeKind
-    ensures { result ≡ with_size (number_of option) kind }
+fn with_size(kind: NodeKind, option: Option<u64>) -> NodeKind
+    ensures { result ≡ with_size option kind }
 {
     match kind {
         NodeKind::File { size } => NodeKind::File {
@@ -117,7 +115,7 @@ fn with_size(kind: NodeKind, option: OptionU64) -> NodeKind
 }
 
 // A symlink with the target, if there is one.
-fn with_target(kind: NodeKind, option: OptionPart) -> NodeKind
+fn with_target(kind: NodeKind, option: Option<Part>) -> NodeKind
     ensures { result ≡ with_target option kind }
 {
     match kind {

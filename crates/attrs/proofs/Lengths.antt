@@ -1,5 +1,6 @@
 -- The size of a link is the length of its target.
 -- Assumes nothing.
+use Rattle.std.specs.Prelude.{Some}
 use mathlib.Core.Path.{◌≡◌, sym}
 use mathlib.Core.List.{List}
 use Prim.Native.Nat.{ℕ}
@@ -9,7 +10,6 @@ use lib.Seq.{length-take-le}
 use Rattle.rules.specs.Fold.{given}
 use Rattle.rules.specs.FileAttrs.{base_size, change_size}
 use Rattle.nodes.specs.declared.part.Part.{Part}
-use Rattle.nodes.specs.declared.option.OptionPart.TheVariants as P
 use Rattle.deltas.specs.declared.delta.SymlinkDelta.{SymlinkDelta}
 use Rattle.deltas.specs.declared.delta.NodeDelta.{NodeDelta}
 use Rattle.deltas.specs.declared.delta.NodeDelta.TheVariants as D
@@ -23,7 +23,7 @@ use Rattle.attrs.specs.Attrs.{TargetIn, LinkIn}
 text-length : (img : List ℕ) (p : Part) → Inside img p → p.length ≡ length (text_at img p)
 text-length img p h = sym (length-take-le p.length (drop p.start img) (omega (arith, length-drop p.start img, h)))
 
-pub link-size : (img : List ℕ) {d : NodeDelta} {s : SymlinkDelta} {p : Part} (old : ℕ) → d ≡ D.Symlink s → s.target ≡ P.Some p → TargetIn img d
+pub link-size : (img : List ℕ) {d : NodeDelta} {s : SymlinkDelta} {p : Part} (old : ℕ) → d ≡ D.Symlink s → s.target ≡ Some p → TargetIn img d
     → p.length ≡ given (change_size (change_meant img d)) old
 link-size img {p = p} old e f h = rw (e, f) (text-length img p (rw (e, f) at h))
 

@@ -1,13 +1,11 @@
 // The attributes of a node, and what a delta makes of attributes.
 ghost use Rattle.std.specs.Prelude.{ℕ, ◌<◌, ◌≡◌, List};
-ghost use Rattle.std.proofs.Math.Option.{some};
 ghost use Rattle.wire.specs.Time.{epoch as epochTime};
 ghost use Rattle.image.specs.Meaning.{kind_number};
 ghost use Rattle.rules.specs.Initial.{usual};
 ghost use Rattle.rules.specs.Fold.{given, cut};
 ghost use Rattle.rules.specs.FileAttrs.{base_attr, base_device, base_perm, base_size, change_device, first_attr};
 ghost use Rattle.nodes.specs.Nodes.{body_meant, node_meant};
-ghost use Rattle.nodes.specs.Options.{word_of, time_of};
 ghost use Rattle.deltas.specs.Deltas.{change_meant};
 ghost use Rattle.attrs.specs.Meant.{kind_meant, attr_meant};
 ghost use Rattle.attrs.specs.Attrs.{Sized, Applies, LinkIn};
@@ -15,7 +13,6 @@ ghost use Rattle.attrs.specs.Attrs.{Sized, Applies, LinkIn};
 use crate::node::{FileAttr, FileType, delta_type, kind_type};
 use deltas::delta::{NodeDelta, attr_delta};
 use nodes::node::{Node, NodeKind};
-use nodes::option::{OptionPart, OptionTime, OptionU32, OptionU64};
 use wire::time::Time;
 
 // Initial permission and links: directory, file, symlink, pipe, character, block, socket.
@@ -98,31 +95,31 @@ pub fn initial_attr(delta: NodeDelta, ino: u64) -> FileAttr
     }
 }
 
-pub fn u32_or(option: OptionU32, old: u32) -> u32
-    ensures { result ≡ given (word_of option) old }
+pub fn u32_or(option: Option<u32>, old: u32) -> u32
+    ensures { result ≡ given option old }
 {
     match option {
-        OptionU32::Some(new) => new,
-        OptionU32::None => old,
+        Some(new) => new,
+        None => old,
     }
 }
 
 // Of a mode only the low twelve bits count.
-pub fn mode_or(option: OptionU32, old: u32) -> u32
-    ensures { result ≡ given (cut (word_of option)) old }
+pub fn mode_or(option: Option<u32>, old: u32) -> u32
+    ensures { result ≡ given (cut option) old }
 {
     match option {
-        OptionU32::Some(new) => new % 4096,
-        OptionU32::None => old,
+        Some(new) => new % 4096,
+        None => old,
     }
 }
 
-pub fn time_or(option: OptionTime, old: Time) -> Time
-    ensures { result ≡ given (time_of option) old }
+pub fn time_or(option: Option<Time>, old: Time) -> Time
+    ensures { result ≡ given option old }
 {
     match option {
-        OptionTime::Some(new) => new,
-        OptionTime::None => old,
+        Some(new) => new,
+        None => old,
     }
 }
 
@@ -134,15 +131,15 @@ fn size_or(delta: NodeDelta, old: u64) -> u64
         NodeDelta::File(file) => {
             let size = file.size;
             match size {
-                OptionU64::Some(new) => new,
-                OptionU64::None => old,
+                Some(new) => new,
+                None => old,
             }
         }
         NodeDelta::Symlink(symlink) => {
             let target = symlink.target;
             match target {
-                OptionPart::Some(text) => text.length as u64,
-                OptionPart::None => old,
+                Some(text) => text.length as u64,
+                None => old,
             }
         }
         _ => old,
@@ -218,7 +215,7 @@ fn node_size(kind: NodeKind) -> u64
 
 // The attributes of a base node.
 pub fn node_attr(node: Node, ino: u64) -> FileAttr
-    ensures { (img : List ℕ) → LinkIn img node.kind → some (attr_meant result) ≡ base_attr ino (some (node_meant img node)) }
+    ensures { (img : List ℕ) → LinkIn img node.kind → Some (attr_meant result) ≡ base_attr ino (Some (node_meant img node)) }
 {
     let meta = node.meta;
     let kind = node.kind;

@@ -1,14 +1,14 @@
 -- The nodes of a walk over a base and layers are the base with the layers folded in.
 -- Assumes nothing.
+use Rattle.std.specs.Prelude.{None, Option, Some}
 use mathlib.Core.Path.{◌≡◌, refl, sym, ap, ◌∙◌}
-use mathlib.Core.Option.{Option, none, some}
 use mathlib.Core.Bool.{Bool, true, false}
 use mathlib.Core.List.{List, [], ◌∷◌}
 use Prim.Native.Nat.{ℕ, zero, suc, ◌+◌, ◌*◌, ◌≤◌}
 use native.Mathlib.Omega.{arith}
 use lib.ListN.{length, take, length-map}
-use Rattle.wire.specs.declared.order.Ordering.{Ordering}
-use Rattle.wire.specs.declared.order.Ordering.TheVariants.{Less, Equal, Greater}
+use Rattle.std.specs.declared.cmp.Ordering.{Ordering}
+use Rattle.std.specs.declared.cmp.Ordering.TheVariants.{Less, Equal, Greater}
 use Rattle.wire.specs.Order.{Order}
 use Rattle.wire.specs.Orders.{by_number}
 use Rattle.wire.specs.Rows.{choose, lookup, Under, Rising}
@@ -40,19 +40,19 @@ use Rattle.base.proofs.Sifting.{none_kept}
 
 module _ {K A : Type 0} (O : Order K) where
   under-row : (k i : K) (o : Option A) (l : List (K × A)) → O.cmp k i ≡ Less → Under O k l → Under O k (row i o l)
-  under-row k i none l h u = u
-  under-row k i (some a) l h u = (h, u)
+  under-row k i None l h u = u
+  under-row k i (Some a) l h u = (h, u)
 
   rising-row : (i : K) (o : Option A) (l : List (K × A)) → Under O i l → Rising O l → Rising O (row i o l)
-  rising-row i none l u r = r
-  rising-row i (some a) l u r = (u, r)
+  rising-row i None l u r = r
+  rising-row i (Some a) l u r = (u, r)
 
   lookup-row : (k i : K) (o : Option A) (l : List (K × A)) → Under O i l → lookup O k (row i o l) ≡ choose (O.cmp k i) o (lookup O k l)
   unfolding lookup
-  lookup-row k i (some a) l u = refl
-  lookup-row k i none l u = go (O.cmp k i) refl
+  lookup-row k i (Some a) l u = refl
+  lookup-row k i None l u = go (O.cmp k i) refl
     where
-      go : (d : Ordering) → O.cmp k i ≡ d → lookup O k l ≡ choose d none (lookup O k l)
+      go : (d : Ordering) → O.cmp k i ≡ d → lookup O k l ≡ choose d None (lookup O k l)
       go Less e = refl
       go Greater e = refl
       go Equal e = rw (O.same k i e) (lookup-under O i l u)
@@ -82,7 +82,7 @@ module _ (d : Bool) where
       lookup-row by_number k e.0 (kept_if d (folded usual e.1.0 e.1.1)) (nodes_of d l) (nodes-under e.0 l r.0) ∙ go (by_number.cmp k e.0) (nodes-get k l r.1)
     where
       go : (c : Ordering) → lookup by_number k (nodes_of d l) ≡ node_of (or_nothing (lookup by_number k l))
-          → choose c (kept_if d (folded usual e.1.0 e.1.1)) (lookup by_number k (nodes_of d l)) ≡ node_of (or_nothing (choose c (some e.1) (lookup by_number k l)))
+          → choose c (kept_if d (folded usual e.1.0 e.1.1)) (lookup by_number k (nodes_of d l)) ≡ node_of (or_nothing (choose c (Some e.1) (lookup by_number k l)))
       go Less ih = ih
       go Equal ih = refl
       go Greater ih = ih
@@ -113,10 +113,10 @@ module _ {img : List ℕ} {b : Base} {ls : List Layer} {w : Walk} (o : Over img 
 nodes-written : (prev : Option ℕ) (l : List (ℕ × M.Node)) → nodes_bytes l ≡ chain_write (rowCodec by_number inode node) (onto by_number inode node) prev l
 unfolding nodes_bytes
 nodes-written prev [] = refl
-nodes-written prev (e ∷ l) = rw (nodes-written (some e.0) l)
+nodes-written prev (e ∷ l) = rw (nodes-written (Some e.0) l)
 
 pub base-written : {img : List ℕ} {b : Base} {ls : List Layer} {w : Walk} (o : Over img b ls w) (d : Bool) → base_bytes d (stacks_left img w) ≡ base.write (folded_base d ls b)
-base-written {b = b} {ls} o d = rw (nodes-are o d) (rw (nodes-written none (folded_base d ls b).rows))
+base-written {b = b} {ls} o d = rw (nodes-are o d) (rw (nodes-written None (folded_base d ls b).rows))
 
 -- ---- a number holds their count
 

@@ -1,7 +1,7 @@
 -- Which nodes of a walk are kept, and the loop that writes and counts them.
 -- Assumes nothing.
+use Rattle.std.specs.Prelude.{None, Option, Some}
 use mathlib.Core.Path.{◌≡◌, refl, sym, ap, ◌∙◌}
-use mathlib.Core.Option.{Option, none, some}
 use mathlib.Core.Bool.{Bool, true, false, cond}
 use mathlib.Core.Logic.{⊎_elim}
 use mathlib.Core.List.{List, [], ◌++◌, append-nil}
@@ -22,8 +22,6 @@ use Rattle.image.specs.Meaning as M
 use Rattle.image.specs.Meaning.{kind_of}
 use Rattle.image.specs.FieldLayout.{inode}
 use Rattle.image.specs.NodeLayout.{node}
-use Rattle.passes.specs.Held.{place_of}
-use Rattle.passes.specs.declared.inode.Place.TheVariants as P
 use Rattle.survey.specs.declared.batch.InodeLayerStack.{InodeLayerStack}
 use Rattle.rules.specs.Queue.{is_directory, kept}
 use Rattle.rules.specs.PlacedStacks.{records_on, node_at, unplaced_node}
@@ -39,8 +37,6 @@ use Rattle.change.specs.Sections.{between}
 use Rattle.merge.specs.Pile.{row}
 use Rattle.fold.specs.FoldedNodes.{Shows, ShowsIf, folded_in, FoldsTo, bytes_if}
 use Rattle.fold.specs.declared.folded.Folded.{Folded}
-use Rattle.fold.specs.declared.folded.OptionFolded.{OptionFolded}
-use Rattle.fold.specs.declared.folded.OptionFolded.TheVariants as O
 use Rattle.fold.proofs.Folding.{shows-kind}
 use Rattle.walk.specs.Walks.{Pieces, Ready, stacks_left, stacks_if, pieces_in, NodeEnds, Steps}
 use Rattle.walk.specs.declared.walk.Walk.{Walk}
@@ -64,10 +60,10 @@ module _ {n : Node} where
 shows-like : {img : List ℕ} {f : Folded} {m : M.Node} → Shows img f m → Like img f.node m
 shows-like h = record { links = ap (λ (x : M.Node). x.meta.links) (sym h.is); kind = shows-kind h }
 
-pub sift-by : (b : Bool) (m : M.Node) → b ≡ kept m → sift kept (some m) ≡ cond b (some m) none
-sift-by b m e = go (kept m) ∙ ap (λ (x : Bool). cond x (some m) none) (sym e)
+pub sift-by : (b : Bool) (m : M.Node) → b ≡ kept m → sift kept (Some m) ≡ cond b (Some m) None
+sift-by b m e = go (kept m) ∙ ap (λ (x : Bool). cond x (Some m) None) (sym e)
   where
-    go : (b : Bool) → ◌≡◌ {A = Option M.Node} (elim b [ true ↦ some m | false ↦ none ]) (cond b (some m) none)
+    go : (b : Bool) → ◌≡◌ {A = Option M.Node} (elim b [ true ↦ Some m | false ↦ None ]) (cond b (Some m) None)
     go true = refl
     go false = refl
 
@@ -80,50 +76,50 @@ module _ {n : Node} {d : Bool} where
 
 -- ---- the row of a stack
 
-pub none_kept : (d : Bool) → kept_if d none ≡ none
+pub none_kept : (d : Bool) → kept_if d None ≡ None
 none_kept true = refl
 none_kept false = refl
 
-module _ (img : List ℕ) (s : InodeLayerStack) {o : OptionFolded} (g : ShowsIf img o (folded_in img s)) where
-  module _ {f : Folded} (e : o ≡ O.Some f) where
+module _ (img : List ℕ) (s : InodeLayerStack) {o : Option Folded} (g : ShowsIf img o (folded_in img s)) where
+  module _ {f : Folded} (e : o ≡ Some f) where
     pub row-folds : Stacked img s → FoldsTo img s f
     row-folds w = record { stacked = w; shows = rw e at g }
 
-    there : (m : M.Node) × (folded_in img s ≡ some m) × Shows img f m
+    there : (m : M.Node) × (folded_in img s ≡ Some m) × Shows img f m
     there = go (folded_in img s) refl (rw e at g)
       where
-        go : (x : Option M.Node) → folded_in img s ≡ x → ShowsIf img (O.Some f) x → (m : M.Node) × (folded_in img s ≡ some m) × Shows img f m
-        go none q h = absurd h
-        go (some m) q h = (m, q, h)
+        go : (x : Option M.Node) → folded_in img s ≡ x → ShowsIf img (Some f) x → (m : M.Node) × (folded_in img s ≡ Some m) × Shows img f m
+        go None q h = absurd h
+        go (Some m) q h = (m, q, h)
 
     module _ {d b : Bool} (k : Stays f.node d b) (i : ℕ) {old : List ℕ} (n : Nodes) where
       pub row_put : b ≡ true → {mid new : List ℕ} {q p : ℕ} → Put old n.end (inode.write i) q mid → Put mid q (bytes_if (folded_in img s)) p new
           → PutsRow old n i (kept_if d (folded_in img s)) (record { end = p; count = n.count + 1 }) new
       row_put z u v =
           let a = there in
-          let w : kept_if d (some a.0) ≡ some a.0 = k.says img a.0 (shows-like a.2) ∙ rw z in
+          let w : kept_if d (Some a.0) ≡ Some a.0 = k.says img a.0 (shows-like a.2) ∙ rw z in
           rw (a.1, w) (record { puts = put-append u (rw a.1 at v); counts = refl })
 
       pub row-dropped : b ≡ false → length old < edge → Fits w64 n.end → PutsRow old n i (kept_if d (folded_in img s)) n old
       row-dropped z h l =
           let a = there in
-          let w : kept_if d (some a.0) ≡ none = k.says img a.0 (shows-like a.2) ∙ rw z in
+          let w : kept_if d (Some a.0) ≡ None = k.says img a.0 (shows-like a.2) ∙ rw z in
           rw (a.1, w) (record { puts = put-nothing h l; counts = omega arith })
 
-  pub row-none : o ≡ O.None → (d : Bool) (i : ℕ) (n : Nodes) {old : List ℕ} → length old < edge → Fits w64 n.end → PutsRow old n i (kept_if d (folded_in img s)) n old
+  pub row-none : o ≡ None → (d : Bool) (i : ℕ) (n : Nodes) {old : List ℕ} → length old < edge → Fits w64 n.end → PutsRow old n i (kept_if d (folded_in img s)) n old
   row-none e d i n {old} h l = go (folded_in img s) (rw e at g)
     where
-      go : (x : Option M.Node) → ShowsIf img O.None x → PutsRow old n i (kept_if d x) n old
-      go none w = rw (none_kept d) (record { puts = put-nothing h l; counts = omega arith })
-      go (some m) w = absurd w
+      go : (x : Option M.Node) → ShowsIf img None x → PutsRow old n i (kept_if d x) n old
+      go None w = rw (none_kept d) (record { puts = put-nothing h l; counts = omega arith })
+      go (Some m) w = absurd w
 
 -- ---- a base node that no record is over
 
-pub no-records : (img : List ℕ) (s : InodeLayerStack) → s.count ≡ 0 → {p : ℕ} → s.base ≡ P.At p → folded_in img s ≡ unplaced_node (node_at img (some p))
+pub no-records : (img : List ℕ) (s : InodeLayerStack) → s.count ≡ 0 → {p : ℕ} → s.base ≡ Some p → folded_in img s ≡ unplaced_node (node_at img (Some p))
 unfolding records_on folded
 no-records img s z e = rw (z, e)
 
-module _ (img : List ℕ) (p e : ℕ) (h : NodeEnds img (some p) e) where
+module _ (img : List ℕ) (p e : ℕ) (h : NodeEnds img (Some p) e) where
   -- it is copied
   base-bytes : between img p e ≡ node.write h.0
   base-bytes =
@@ -138,15 +134,15 @@ module _ (img : List ℕ) (p e : ℕ) (h : NodeEnds img (some p) e) where
       (λ (k : e ≤ length img). take_at w (drop e img) (e - p) (omega (arith, l)))
       (lt-or-ge (length img) e))
 
-  base-is : unplaced_node (node_at img (some p)) ≡ some h.0
+  base-is : unplaced_node (node_at img (Some p)) ≡ Some h.0
   base-is = rw h.1
 
   module _ {d b : Bool} (k : StaysAt img p d b) (i : ℕ) (o : Nodes) where
     pub base-put : b ≡ true → {old mid new : List ℕ} {q r : ℕ} → Put old o.end (inode.write i) q mid → Put mid q (between img p e) r new
-        → PutsRow old o i (kept_if d (unplaced_node (node_at img (some p)))) (record { end = r; count = o.count + 1 }) new
+        → PutsRow old o i (kept_if d (unplaced_node (node_at img (Some p)))) (record { end = r; count = o.count + 1 }) new
     base-put z u v = rw (base-is, k.says h.0 (drop e img) h.1, z) (record { puts = put-append u (rw base-bytes at v); counts = refl })
 
-    pub base-dropped : b ≡ false → {old : List ℕ} → length old < edge → Fits w64 o.end → PutsRow old o i (kept_if d (unplaced_node (node_at img (some p)))) o old
+    pub base-dropped : b ≡ false → {old : List ℕ} → length old < edge → Fits w64 o.end → PutsRow old o i (kept_if d (unplaced_node (node_at img (Some p)))) o old
     base-dropped z w l = rw (base-is, k.says h.0 (drop e img) h.1, z) (record { puts = put-nothing w l; counts = omega arith })
 
 -- ---- the rows of a walk
@@ -157,22 +153,22 @@ stacks_at img t w = stacks_if t.more (t.inode, pieces_in img t.stack) (stacks_le
 
 row-bytes : (i : ℕ) (o : Option M.Node) (l : List (ℕ × M.Node)) → nodes_bytes (row i o l) ≡ row_bytes i o ++ nodes_bytes l
 unfolding nodes_bytes
-row-bytes i none l = refl
-row-bytes i (some m) l = refl
+row-bytes i None l = refl
+row-bytes i (Some m) l = refl
 
 row_count_lem : (i : ℕ) (o : Option M.Node) (l : List (ℕ × M.Node)) → length (row i o l) ≡ count_if o + length l
-row_count_lem i none l = omega arith
-row_count_lem i (some m) l = omega arith
+row_count_lem i None l = omega arith
+row_count_lem i (Some m) l = omega arith
 
 row_one : (o : Option M.Node) → count_if o ≤ 1
-row_one none = omega arith
-row_one (some m) = omega arith
+row_one None = omega arith
+row_one (Some m) = omega arith
 
 -- what is left, written after those so far, makes the whole
 pub record Writing (l₀ : List ℕ) (at : ℕ) (img : List ℕ) (all : List (ℕ × Pieces)) (d : Bool) (l : List ℕ) (t : Step) (w : Walk) (n : Nodes) : Type 0 where
   pub ready : Ready img w
   pub stacked : Stacked img t.stack
-  pub ends : NodeEnds img (place_of t.stack.base) t.end
+  pub ends : NodeEnds img t.stack.base t.end
   pub long : length l ≡ length l₀
   pub low : n.end ≤ edge
   pub few : n.count + length (stacks_at img t w) ≤ edge

@@ -1,6 +1,5 @@
 -- The nodes that fold makes of stacks, by rising inode. Document 01: "Snapshot folds every layer, then drops non-directories with 0 links".
-use Rattle.std.specs.Prelude.{◌≡◌, Bool, true, false, cond, List, [], ◌∷◌, ◌++◌, ℕ, ◌+◌, ◌≤◌, length, drop}
-use Rattle.std.proofs.Math.Option.{Option, none, some}
+use Rattle.std.specs.Prelude.{◌≡◌, Bool, true, false, cond, List, [], ◌∷◌, ◌++◌, ℕ, ◌+◌, ◌≤◌, length, drop, None, Option, Some}
 use Rattle.wire.specs.Maps.{sift}
 use Rattle.wire.specs.Number.{edge, number_bytes}
 use Rattle.wire.specs.Parse.{got}
@@ -35,15 +34,15 @@ pub record Keeps (n : Node) (b : Bool) : Type 0 where
   pub says : (img : List ℕ) (m : M.Node) → Like img n m → b ≡ kept m
 
 pub record Stays (n : Node) (drops b : Bool) : Type 0 where
-  pub says : (img : List ℕ) (m : M.Node) → Like img n m → kept_if drops (some m) ≡ cond b (some m) none
+  pub says : (img : List ℕ) (m : M.Node) → Like img n m → kept_if drops (Some m) ≡ cond b (Some m) None
 
 -- the node that is read at a place, by its kind and links
 pub record StaysAt (img : List ℕ) (p : ℕ) (drops b : Bool) : Type 0 where
-  pub says : (m : M.Node) (t : List ℕ) → node.read (drop p img) ≡ got m t → kept_if drops (some m) ≡ cond b (some m) none
+  pub says : (m : M.Node) (t : List ℕ) → node.read (drop p img) ≡ got m t → kept_if drops (Some m) ≡ cond b (Some m) None
 
 abbrev pub count_if : Option M.Node → ℕ
-count_if none = 0
-count_if (some m) = 1
+count_if None = 0
+count_if (Some m) = 1
 
 -- the nodes of stacks, each folded
 unfoldable pub nodes_of : Bool → List (ℕ × Pieces) → List (ℕ × M.Node)
@@ -54,8 +53,8 @@ nodes_of drops (e ∷ l) = row e.0 (kept_if drops (folded usual e.1.0 e.1.1)) (n
 
 -- "inode; kind ..."
 abbrev pub row_bytes : ℕ → Option M.Node → List ℕ
-row_bytes i none = []
-row_bytes i (some m) = inode.write i ++ node.write m
+row_bytes i None = []
+row_bytes i (Some m) = inode.write i ++ node.write m
 
 unfoldable pub nodes_bytes : List (ℕ × M.Node) → List ℕ
 nodes_bytes [] = []

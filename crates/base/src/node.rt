@@ -1,9 +1,7 @@
 // The nodes that a walk over the base and layers gives, each stack folded, one after the other by rising inode.
 ghost use Rattle.std.specs.Prelude.{List, ◌≡◌, ℕ, ◌<◌};
-ghost use Rattle.std.proofs.Math.Option.{some};
 ghost use Rattle.wire.specs.Number.{edge};
 ghost use Rattle.image.specs.Meaning.{kind_of};
-ghost use Rattle.passes.specs.Held.{place_of};
 ghost use Rattle.rules.specs.Queue.{is_directory};
 ghost use Rattle.nodes.specs.Nodes.{body_meant};
 ghost use Rattle.rules.specs.PlacedStacks.{node_at, unplaced_node};
@@ -13,9 +11,8 @@ ghost use Rattle.walk.specs.Walks.{NodeEnds, stacks_left};
 ghost use Rattle.base.specs.Nodes.{Keeps, Stays, StaysAt, kept_if, PutsRow, nodes_of, PutsNodes, Few};
 
 use change::copy::put_between;
-use fold::folded::{OptionFolded, folded_node, put_folded};
+use fold::folded::{folded_node, put_folded};
 use nodes::node::{Node, NodeKind};
-use passes::inode::Place;
 use survey::batch::InodeLayerStack;
 use walk::walk::{Walk, next_stack};
 use wire::cursor::Cursor;
@@ -87,8 +84,8 @@ fn put_base_node(
     end: usize,
     drops: bool,
 ) -> Nodes
-    requires { NodeEnds img.now (some place) end × (so_far.count < edge) }
-    ensures { PutsRow buf.old so_far inode (kept_if drops (unplaced_node (node_at img.now (some place)))) result buf.new }
+    requires { NodeEnds img.now (Some place) end × (so_far.count < edge) }
+    ensures { PutsRow buf.old so_far inode (kept_if drops (unplaced_node (node_at img.now (Some place)))) result buf.new }
 {
     if stays_at(img, place, drops) {
         let first = put_number(buf, so_far.end, inode);
@@ -112,7 +109,7 @@ fn put_folded_node(
     requires { Stacked img.now stack × (so_far.count < edge) }
     ensures { PutsRow buf.old so_far inode (kept_if drops (folded_in img.now stack)) result buf.new }
 {
-    let OptionFolded::Some(folded) = folded_node(img, stack) else {
+    let Some(folded) = folded_node(img, stack) else {
         return so_far;
     };
     let node = folded.node;
@@ -137,12 +134,12 @@ fn put_node_of(
     end: usize,
     drops: bool,
 ) -> Nodes
-    requires { Stacked img.now stack × NodeEnds img.now (place_of stack.base) end × (so_far.count < edge) }
+    requires { Stacked img.now stack × NodeEnds img.now stack.base end × (so_far.count < edge) }
     ensures { PutsRow buf.old so_far inode (kept_if drops (folded_in img.now stack)) result buf.new }
 {
     let base = stack.base;
     if stack.count == 0 {
-        if let Place::At(place) = base {
+        if let Some(place) = base {
             return put_base_node(buf, so_far, img, inode, place, end, drops);
         }
     }

@@ -1,8 +1,8 @@
 -- Batches one after the other: what the code passes over, and what is written of them.
 -- Assumes nothing.
+use Rattle.std.specs.Prelude.{None, Option, Some}
 use mathlib.Core.Path.{◌≡◌, refl, sym, ap, ◌∙◌}
 use mathlib.Core.List.{List, [], ◌∷◌, ◌++◌, append-nil, append_assoc}
-use mathlib.Core.Option.{Option, none, some}
 use Prim.Native.Nat.{ℕ}
 use lib.ListN.{length}
 use Rattle.wire.specs.declared.cursor.Cursor.{Cursor}
@@ -21,7 +21,6 @@ use Rattle.survey.specs.Gathering.{batch_head}
 use Rattle.passes.specs.Held.{Finds}
 use Rattle.image.specs.Places.{Ends}
 use Rattle.passes.specs.declared.inode.Held.TheVariants as H
-use Rattle.passes.specs.declared.inode.Place.{Place}
 use Rattle.image.proofs.Passing.{ends-got, ends-fault}
 use Rattle.change.specs.Batches.{HeadParts, pass_batch}
 
@@ -38,7 +37,7 @@ ends-kept {img = img} {p} at next b h = record { same = go at next h; within = h
     go (Stop x) (At q) h = never-got h.same
     go (Stop x) (Stop y) h = let d = h.same in cc
 
-pub batch-passed : {img : List ℕ} {at mid next : Cursor} {h : HeadParts} {place : Place} → Reads img batch_head.read at h mid
+pub batch-passed : {img : List ℕ} {at mid next : Cursor} {h : HeadParts} {place : Option ℕ} → Reads img batch_head.read at h mid
     → Finds img H.Record 0 mid place next → Reads img pass_batch at h next
 batch-passed {img} {mid = mid} {next} {h} r f = read-then img batch_head.read _ r (ends-kept mid next h f.ends)
 
@@ -61,13 +60,13 @@ chain-bytes : (prev : Option ℕ) (bs : List Batch) → chain_write batch_after 
 unfolding batch_after queue_bytes
 chain-bytes prev [] = refl
 chain-bytes prev (b ∷ bs) =
-    ap (λ (t : List ℕ). t ++ chain_write batch_after id_of (some b.id) bs)
+    ap (λ (t : List ℕ). t ++ chain_write batch_after id_of (Some b.id) bs)
     (six (inode.write b.id) (word.write b.bytes) (word.write b.operations) (number_bytes b.reason) (moment.write b.committed) (records.write b.records))
-    ∙ ap (λ (t : List ℕ). batch_bytes b ++ t) (chain-bytes (some b.id) bs)
+    ∙ ap (λ (t : List ℕ). batch_bytes b ++ t) (chain-bytes (Some b.id) bs)
 
 pub batches-bytes : (bs : List Batch) → batches.write bs ≡ number_bytes (length bs) ++ queue_bytes bs
 unfolding batches
-batches-bytes bs = ap (λ (t : List ℕ). number_bytes (length bs) ++ t) (chain-bytes none bs)
+batches-bytes bs = ap (λ (t : List ℕ). number_bytes (length bs) ++ t) (chain-bytes None bs)
 
 -- one batch more
 pub queue-more : (bs : List Batch) (b : Batch) → queue_bytes (bs ++ (b ∷ [])) ≡ queue_bytes bs ++ batch_bytes b

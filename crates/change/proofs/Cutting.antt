@@ -1,13 +1,13 @@
 -- Cutting a rising list at a key.
 -- Assumes nothing.
+use Rattle.std.specs.Prelude.{None, Option, Some}
 use mathlib.Core.Path.{◌≡◌, refl, sym, ap, subst, ◌∙◌}
 use mathlib.Core.List.{List, [], ◌∷◌, ◌++◌, append_assoc, append-nil}
-use mathlib.Core.Option.{Option, none, some}
 use Prim.Native.Nat.{ℕ, ◌+◌, ◌-◌, ◌≤◌, ◌<◌}
 use native.Mathlib.Omega.{arith}
 use lib.ListN.{length, drop, length-append}
-use Rattle.wire.specs.declared.order.Ordering.{Ordering}
-use Rattle.wire.specs.declared.order.Ordering.TheVariants.{Less, Equal, Greater}
+use Rattle.std.specs.declared.cmp.Ordering.{Ordering}
+use Rattle.std.specs.declared.cmp.Ordering.TheVariants.{Less, Equal, Greater}
 use Rattle.wire.specs.declared.cursor.Cursor.{Cursor}
 use Rattle.wire.specs.declared.cursor.Cursor.TheVariants.{At}
 use Rattle.wire.specs.Order.{Order}
@@ -20,9 +20,6 @@ use Rattle.wire.specs.Reading.{Reads, Answers, place_at}
 use Rattle.wire.proofs.Readers.{number-most}
 use Rattle.image.specs.FieldLayout.{listed}
 use Rattle.image.specs.Places.{Ends, Holds}
-use Rattle.passes.specs.Held.{place_of}
-use Rattle.passes.specs.declared.inode.Place.{Place}
-use Rattle.passes.specs.declared.inode.Place.TheVariants as P
 use Rattle.change.specs.Sections.{Spans}
 use Rattle.change.specs.Cuts.{three, rows_below, row_here, rows_above, rows_bytes, under_first, count_after, CutIs, Cuts, CutsList}
 use Rattle.change.specs.Edits.{is_there, row_if, edit_rows}
@@ -37,7 +34,7 @@ module _ {K A : Type 0} (O : Order K) (key : Codec K) (value : Codec A) where
   pub chain-rows : (prev : Option K) (l : List (K × A)) → chain_write (row O key value) (onto O key value) prev l ≡ rows_bytes key value l
   unfolding rows_bytes
   chain-rows prev [] = refl
-  chain-rows prev (e ∷ l) = ap (λ (t : List ℕ). (key.write e.0 ++ value.write e.1) ++ t) (chain-rows (some e.0) l)
+  chain-rows prev (e ∷ l) = ap (λ (t : List ℕ). (key.write e.0 ++ value.write e.1) ++ t) (chain-rows (Some e.0) l)
 
   pub rows_append : (l m : List (K × A)) → rows_bytes key value (l ++ m) ≡ rows_bytes key value l ++ rows_bytes key value m
   unfolding rows_bytes
@@ -79,7 +76,7 @@ module _ {K A : Type 0} (O : Order K) (key : Codec K) (value : Codec A) where
       (l, record { passed = []; below = refl; own = refl; above = refl; before = nothing (omega (arith, s.ends, s.within)); behind = s; many = e; fit = f })
 
   abbrev no_row : ℕ → ℕ → ℕ → Cut
-  no_row n first here = record { count = n; first = first; row = here; after = here; place = P.Nowhere }
+  no_row n first here = record { count = n; first = first; row = here; after = here; place = None }
 
   -- nothing of what is left is at or below the key
   ended : {img : List ℕ} {first n : ℕ} {i : K} {here left : ℕ} {l rest : List (K × A)} {to : ℕ} → n ≡ length l → Come img first i here left l to rest
@@ -144,7 +141,7 @@ module _ {K A : Type 0} (O : Order K) (key : Codec K) (value : Codec A) where
         record-span : Spans img (place_at start) record_bytes (place_at next)
         record-span = rw start-at record-past.spans
 
-        record-held : Holds img value.read (some (place_at start)) (some r.1)
+        record-held : Holds img value.read (Some (place_at start)) (Some r.1)
         record-held = (drop (place_at next) img, rw (start-at, record-past.spans.is) (value.back r.1 (drop (place_at next) img) c.fit.0.1))
 
   module _ {img : List ℕ} {first n : ℕ} {i v : K} {here left : ℕ} (w : Cutting img first n i here left) (some_left : 0 < left) (start : Cursor) (a : Reads img key.read (At here) v start) where
@@ -161,12 +158,12 @@ module _ {K A : Type 0} (O : Order K) (key : Codec K) (value : Codec A) where
 
     module _ (next : Cursor) (p : Ends img value.read start next) where
       -- it is the key's
-      pub cut-found : O.cmp i v ≡ Equal → Cuts O key value img first n i (record { count = n; first = first; row = here; after = place_at next; place = P.At (place_at start) })
+      pub cut-found : O.cmp i v ≡ Equal → Cuts O key value img first n i (record { count = n; first = first; row = here; after = place_at next; place = Some (place_at start) })
       unfolding rows_below row_here rows_above rows_bytes
       cut-found h = record { from = refl; counts = refl; cut = λ l to e f s. go l to e (w l to e f s).0 (w l to e f s).1 }
         where
           go : (l : List (K × A)) (to : ℕ) → n ≡ length l → (rest : List (K × A)) → Come img first i here left l to rest
-              → CutIs O key value img i l to (record { count = n; first = first; row = here; after = place_at next; place = P.At (place_at start) })
+              → CutIs O key value img i l to (record { count = n; first = first; row = here; after = place_at next; place = Some (place_at start) })
           go l to e [] c = absurd (omega (arith, c.many))
           go l to e (r ∷ m) c =
               let z : O.cmp i r.0 ≡ Equal = rw (← (key-read c start a).0) h in
@@ -210,7 +207,7 @@ module _ {K A : Type 0} (O : Order K) (key : Codec K) (value : Codec A) where
       go : (m : Map O A) (to : ℕ) → (listed O key value).Fits m → Spans img at ((listed O key value).write m) to → CutIs O key value img i m.rows to r
       go m to f s =
           let head = number_bytes (length m.rows) in
-          let w : Spans img at (head ++ bytes_of m.rows) to = subst (λ (t : List ℕ). Spans img at (head ++ t) to) (chain-rows O key value none m.rows) s in
+          let w : Spans img at (head ++ bytes_of m.rows) to = subst (λ (t : List ℕ). Spans img at (head ++ t) to) (chain-rows O key value None m.rows) s in
           let k = span-reads (number_to last_count refl) (span-front head (bytes_of m.rows) w) (omega (arith, f.count)) next a.reads in
           c.cut m.rows to k.0 f.each (rw (ap place_at k.1) (span-back head (bytes_of m.rows) w))
 
@@ -238,15 +235,15 @@ module _ {K A : Type 0} (O : Order K) (key : Codec K) (value : Codec A) {img : L
       here : (x : Option A) → under_first (row_here O k l) ≡ x → length (row_here O k l) ≡ length (row_if O k x)
       here x d = ap length (here-row O k l) ∙ ap (λ (y : Option A). length (row_if O k y)) d
 
-      go : (p : Place) (o x : Option A) → under_first (row_here O k l) ≡ x → Holds img value.read (place_of p) x
+      go : (p : Option ℕ) (o x : Option A) → under_first (row_here O k l) ≡ x → Holds img value.read p x
           → length (edit_rows O ((k, o) ∷ es) l) + length (row_here O k l) ≡ length (edit_rows O es l) + length (row_if O k o)
           → count_after n p (is_there o) ≡ length (edit_rows O ((k, o) ∷ es) l)
-      go (P.At p) o none d h q = absurd h
-      go (P.At p) none (some a) d h q = omega (arith, e, q, here (some a) d)
-      go (P.At p) (some v) (some a) d h q = omega (arith, e, q, here (some a) d)
-      go P.Nowhere none none d h q = omega (arith, e, q, here none d)
-      go P.Nowhere (some v) none d h q = omega (arith, e, q, here none d)
-      go P.Nowhere o (some a) d h q = absurd h
+      go (Some p) o None d h q = absurd h
+      go (Some p) None (Some a) d h q = omega (arith, e, q, here (Some a) d)
+      go (Some p) (Some v) (Some a) d h q = omega (arith, e, q, here (Some a) d)
+      go None None None d h q = omega (arith, e, q, here None d)
+      go None (Some v) None d h q = omega (arith, e, q, here None d)
+      go None o (Some a) d h q = absurd h
 
   -- what stands under the key stands there again
   pub count_same : length (edit_rows O ((k, under_first (row_here O k l)) ∷ es) l) ≡ length (edit_rows O es l)
@@ -261,7 +258,7 @@ module _ {K A : Type 0} (O : Order K) where
   lookup-here k (e ∷ l) r = go (O.cmp k e.0) refl (lookup-here k l r.1)
     where
       go : (o : Ordering) → O.cmp k e.0 ≡ o → lookup O k l ≡ under_first (row_here O k l)
-          → choose o (some e.1) (lookup O k l) ≡ under_first (three o [] (e ∷ []) (row_here O k l))
+          → choose o (Some e.1) (lookup O k l) ≡ under_first (three o [] (e ∷ []) (row_here O k l))
       go Less d h = lookup-under O k l (under-below O k e.0 l d r.0)
       go Equal d h = refl
       go Greater d h = h

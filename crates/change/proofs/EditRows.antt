@@ -1,13 +1,13 @@
 -- A rising list changed under several rising keys in one pass is the list with each change put in turn, for any order, key and value.
 -- Assumes nothing.
+use Rattle.std.specs.Prelude.{None, Option, Some}
 use mathlib.Core.Path.{◌≡◌, refl, ap, ◌∙◌}
 use mathlib.Core.List.{List, [], ◌∷◌, ◌++◌}
-use mathlib.Core.Option.{Option, none, some}
 use Prim.Native.Nat.{ℕ, ◌+◌}
 use native.Mathlib.Omega.{arith}
 use lib.ListN.{length, length-append}
-use Rattle.wire.specs.declared.order.Ordering.{Ordering}
-use Rattle.wire.specs.declared.order.Ordering.TheVariants.{Less, Equal, Greater}
+use Rattle.std.specs.declared.cmp.Ordering.{Ordering}
+use Rattle.std.specs.declared.cmp.Ordering.TheVariants.{Less, Equal, Greater}
 use Rattle.wire.specs.Order.{Order}
 use Rattle.wire.specs.Maps.{Map, put, over}
 use Rattle.wire.specs.Rows.{insert, remove, set, Under, Rising}
@@ -52,8 +52,8 @@ module _ {K : Type 0} (O : Order K) where
         go Greater i = i
 
     under-if : (k j : K) (o : Option A) → O.cmp k j ≡ Less → Under O k (row_if O j o)
-    under-if k j none h = tt
-    under-if k j (some v) h = (h, tt)
+    under-if k j None h = tt
+    under-if k j (Some v) h = (h, tt)
 
     under-edit : (k : K) (es : List (K × Option A)) (l : List (K × A)) → Under O k es → Under O k l → Under O k (edit_rows O es l)
     unfolding edit_rows
@@ -75,8 +75,8 @@ module _ {K : Type 0} (O : Order K) where
 
     set-under : (k : K) (o : Option A) (l : List (K × A)) → Under O k l → set O k o l ≡ row_if O k o ++ l
     unfolding set
-    set-under k none l u = remove-under k l u
-    set-under k (some v) l u = insert-under k v l u
+    set-under k None l u = remove-under k l u
+    set-under k (Some v) l u = insert-under k v l u
 
     -- ---- one change at the head of a list
 
@@ -88,13 +88,13 @@ module _ {K : Type 0} (O : Order K) where
 
     set_here : (k : K) (o : Option A) (f : K × A) (l : List (K × A)) → O.cmp k f.0 ≡ Equal → Under O k l → set O k o (f ∷ l) ≡ row_if O k o ++ l
     unfolding set insert remove
-    set_here k none f l h u = rw h (remove-under k l u)
-    set_here k (some v) f l h u = rw h
+    set_here k None f l h u = rw h (remove-under k l u)
+    set_here k (Some v) f l h u = rw h
 
     set_past : (k : K) (o : Option A) (f : K × A) (l : List (K × A)) → O.cmp k f.0 ≡ Greater → set O k o (f ∷ l) ≡ f ∷ set O k o l
     unfolding set insert remove
-    set_past k none f l h = rw h
-    set_past k (some v) f l h = rw h
+    set_past k None f l h = rw h
+    set_past k (Some v) f l h = rw h
 
     -- ---- the law
 

@@ -1,9 +1,9 @@
 -- How a change ends: it was refused, or its new image was measured, and then had no room or was written.
 -- Assumes nothing.
+use Rattle.std.specs.Prelude.{None, Some}
 use mathlib.Core.Path.{◌≡◌, refl, ◌∙◌}
 use mathlib.Core.Bool.{Bool, true, false, ◌||◌, ◌&&◌, cond}
 use mathlib.Core.List.{List}
-use mathlib.Core.Option.{some, none}
 use Prim.Native.Nat.{ℕ, ◌+◌, ◌≤◌, min}
 use native.Mathlib.Omega.{arith}
 use lib.Dec.{leb, ltb}
@@ -92,12 +92,12 @@ module _ (c : Call) {img : List ℕ} {p : Sections} {s : Store} (w : Stands img 
   unfolding new_image
   def_is room = over-fine _ img w.short w.is
 
-  pub changes-refused : {old : List ℕ} {n : ℕ} → refusal c s ≡ some n → Changes (by_rules usual c img (length old)) old (A.Refused n) old
+  pub changes-refused : {old : List ℕ} {n : ℕ} → refusal c s ≡ Some n → Changes (by_rules usual c img (length old)) old (A.Refused n) old
   unfolding change
   changes-refused {old} e = refused-same (def_is (length old) ∙ rw e)
 
   -- the new image, if there is room
-  def-fits : (room : ℕ) → refusal c s ≡ none → by_rules usual c img room ≡ if_fits (write_image (result usual c s)) room
+  def-fits : (room : ℕ) → refusal c s ≡ None → by_rules usual c img room ≡ if_fits (write_image (result usual c s)) room
   unfolding change
   def-fits room e = def_is room ∙ rw e (go (has_room room (result usual c s)))
     where
@@ -105,6 +105,6 @@ module _ (c : Call) {img : List ℕ} {p : Sections} {s : Store} (w : Stands img 
       go true = refl
       go false = refl
 
-  pub changes-made : {bytes old new : List ℕ} {r : ChangeAnswer} → refusal c s ≡ none → bytes ≡ write_image (result usual c s)
+  pub changes-made : {bytes old new : List ℕ} {r : ChangeAnswer} → refusal c s ≡ None → bytes ≡ write_image (result usual c s)
       → Changes (if_fits bytes (length old)) old r new → Changes (by_rules usual c img (length old)) old r new
   changes-made {old = old} e d h = rw (def-fits (length old) e, ← d) h

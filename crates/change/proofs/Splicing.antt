@@ -1,12 +1,12 @@
 -- An image with pieces replaced is what is written of the list with the changes put.
 -- Assumes nothing.
+use Rattle.std.specs.Prelude.{None, Option}
 use mathlib.Core.Path.{◌≡◌, refl, sym, ap, ◌∙◌}
 use mathlib.Core.List.{List, [], ◌∷◌, ◌++◌, append_assoc}
-use mathlib.Core.Option.{Option, none}
 use Prim.Native.Nat.{ℕ, ◌+◌}
 use native.Mathlib.Omega.{arith}
 use lib.ListN.{length, length-append}
-use Rattle.wire.specs.declared.order.Ordering.TheVariants.{Less}
+use Rattle.std.specs.declared.cmp.Ordering.TheVariants.{Less}
 use Rattle.wire.specs.Order.{Order}
 use Rattle.wire.specs.Codec.{Codec}
 use Rattle.wire.specs.Number.{number_bytes}
@@ -49,7 +49,7 @@ module _ {K A : Type 0} (O : Order K) (key : Codec K) (value : Codec A) where
       → number_bytes count ++ spliced img first ps to ≡ (listed O key value).write (put_all O es m) ++ t
   splices-bytes {img} {m} {t} {to} {count} {first} {ps} {es} s =
       let r = put-rows O es m s.rising in
-      let w = chain-rows O key value none (put_all O es m).rows ∙ ap (rows_bytes key value) r in
+      let w = chain-rows O key value None (put_all O es m).rows ∙ ap (rows_bytes key value) r in
       let b = pieces-bytes O key value img first m.rows t to ps es s.pieces in
       (λ j. number_bytes (s.counts j) ++ b j)
       ∙ sym (append_assoc (number_bytes (length (edit_rows O es m.rows))) (rows_bytes key value (edit_rows O es m.rows)) t)

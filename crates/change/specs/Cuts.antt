@@ -1,8 +1,7 @@
 -- Where a rising list is cut to change what stands under one key: the rows below the key, its own, those above.
-use Rattle.std.specs.Prelude.{◌≡◌, Bool, true, false, List, [], ◌∷◌, ◌++◌, ℕ, ◌+◌, ◌-◌, ◌≤◌, length}
-use Rattle.std.proofs.Math.Option.{Option, none, some}
-use Rattle.wire.specs.declared.order.Ordering.{Ordering}
-use Rattle.wire.specs.declared.order.Ordering.TheVariants.{Less, Equal, Greater}
+use Rattle.std.specs.Prelude.{◌≡◌, Bool, true, false, List, [], ◌∷◌, ◌++◌, ℕ, ◌+◌, ◌-◌, ◌≤◌, length, None, Option, Some}
+use Rattle.std.specs.declared.cmp.Ordering.{Ordering}
+use Rattle.std.specs.declared.cmp.Ordering.TheVariants.{Less, Equal, Greater}
 use Rattle.wire.specs.Order.{Order}
 use Rattle.wire.specs.Orders.{by_number}
 use Rattle.wire.specs.Codec.{Codec}
@@ -11,9 +10,6 @@ use Rattle.wire.specs.Maps.{Map}
 use Rattle.image.specs.FieldLayout.{inode, listed}
 use Rattle.image.specs.RecordLayout.{layer_record}
 use Rattle.image.specs.Places.{Holds}
-use Rattle.passes.specs.Held.{place_of}
-use Rattle.passes.specs.declared.inode.Place.{Place}
-use Rattle.passes.specs.declared.inode.Place.TheVariants as P
 use Rattle.change.specs.Sections.{Spans}
 use Rattle.change.specs.declared.cut.Cut.{Cut}
 
@@ -42,23 +38,23 @@ module _ {K A : Type 0} (key : Codec K) (value : Codec A) where
   rows_bytes (e ∷ l) = (key.write e.0 ++ value.write e.1) ++ rows_bytes l
 
 -- how many rows there are, once the key has one or none
-abbrev pub count_after : ℕ → Place → Bool → ℕ
-count_after n (P.At p) true = n
-count_after n (P.At p) false = n - 1
-count_after n P.Nowhere true = n + 1
-count_after n P.Nowhere false = n
+abbrev pub count_after : ℕ → Option ℕ → Bool → ℕ
+count_after n (Some p) true = n
+count_after n (Some p) false = n - 1
+count_after n None true = n + 1
+count_after n None false = n
 
 -- what stands under the first key
 abbrev pub under_first : {K A : Type 0} → List (K × A) → Option A
-under_first [] = none
-under_first (e ∷ l) = some e.1
+under_first [] = None
+under_first (e ∷ l) = Some e.1
 
 module _ {K A : Type 0} (O : Order K) (key : Codec K) (value : Codec A) (img : List ℕ) where
   -- what stands under the key's row is from its place to the next row
-  abbrev pub StandsAt : Place → List (K × A) → ℕ → Type 0
-  StandsAt (P.At p) [] to = Unit {0}
-  StandsAt (P.At p) (e ∷ l) to = Spans img p (value.write e.1) to
-  StandsAt P.Nowhere l to = Unit {0}
+  abbrev pub StandsAt : Option ℕ → List (K × A) → ℕ → Type 0
+  StandsAt (Some p) [] to = Unit {0}
+  StandsAt (Some p) (e ∷ l) to = Spans img p (value.write e.1) to
+  StandsAt None l to = Unit {0}
 
   -- rows that end at `to`, cut at a key
   pub record CutIs (k : K) (l : List (K × A)) (to : ℕ) (r : Cut) : Type 0 where
@@ -66,7 +62,7 @@ module _ {K A : Type 0} (O : Order K) (key : Codec K) (value : Codec A) (img : L
     pub below : Spans img r.first (rows_bytes key value (rows_below O k l)) r.row
     pub here : Spans img r.row (rows_bytes key value (row_here O k l)) r.after
     pub above : Spans img r.after (rows_bytes key value (rows_above O k l)) to
-    pub holds : Holds img value.read (place_of r.place) (under_first (row_here O k l))
+    pub holds : Holds img value.read r.place (under_first (row_here O k l))
     pub stands : StandsAt r.place (row_here O k l) r.after
 
   -- n rows from `first` on, if they stand there

@@ -1,20 +1,19 @@
 -- A rising list changed under several keys at once: of each key what stands under it afterwards, or none.
-use Rattle.std.specs.Prelude.{Bool, true, false, List, [], ◌∷◌, ◌++◌}
-use Rattle.std.proofs.Math.Option.{Option, none, some}
+use Rattle.std.specs.Prelude.{Bool, true, false, List, [], ◌∷◌, ◌++◌, None, Option, Some}
 use Rattle.wire.specs.Order.{Order}
 use Rattle.wire.specs.Maps.{Map, over}
 use Rattle.change.specs.Cuts.{rows_below, rows_above}
 
 -- whether something stands there
 abbrev pub is_there : {A : Type 0} → Option A → Bool
-is_there none = false
-is_there (some a) = true
+is_there None = false
+is_there (Some a) = true
 
 module _ {K A : Type 0} (O : Order K) where
   -- the key's row, if something stands under it
   abbrev pub row_if : K → Option A → List (K × A)
-  row_if k none = []
-  row_if k (some v) = (k, v) ∷ []
+  row_if k None = []
+  row_if k (Some v) = (k, v) ∷ []
 
   -- rows copied up to each key in turn, and that key's row changed
   unfoldable pub edit_rows : List (K × Option A) → List (K × A) → List (K × A)

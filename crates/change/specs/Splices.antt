@@ -1,6 +1,5 @@
 -- An image with pieces replaced: what stands from `row` to `after` gives way to other bytes, and all else is copied.
-use Rattle.std.specs.Prelude.{◌≡◌, List, [], ◌∷◌, ◌++◌, ℕ, length}
-use Rattle.std.proofs.Math.Option.{Option}
+use Rattle.std.specs.Prelude.{◌≡◌, List, [], ◌∷◌, ◌++◌, ℕ, length, Option}
 use Rattle.wire.specs.Order.{Order}
 use Rattle.wire.specs.Codec.{Codec}
 use Rattle.wire.specs.Maps.{Map}

@@ -6,7 +6,6 @@ ghost use Rattle.image.specs.FieldLayout.{inode};
 ghost use Rattle.image.specs.RecordLayout.{layer_record};
 ghost use Rattle.change.specs.Cuts.{Cuts, CutsRecords, count_after};
 
-use passes::inode::Place;
 use passes::record::pass_record;
 use wire::cursor::{Cursor, place_at};
 use wire::number::read_number;
@@ -18,7 +17,7 @@ pub struct Cut {
     pub first: usize,
     pub row: usize,
     pub after: usize,
-    pub place: Place,
+    pub place: Option<usize>,
 }
 
 // The records of a layer, their count first.
@@ -49,7 +48,7 @@ fn cut_rows(img: &[u8], first: usize, count: u64, ino: u64) -> Cut
                 first,
                 row,
                 after,
-                place: Place::At(place_at(start)),
+                place: Some(place_at(start)),
             };
         }
         row = after;
@@ -59,17 +58,17 @@ fn cut_rows(img: &[u8], first: usize, count: u64, ino: u64) -> Cut
         first,
         row,
         after: row,
-        place: Place::Nowhere,
+        place: None,
     }
 }
 
 // How many rows there are of `count`, once the key has one or none.
-pub fn count_after(count: u64, place: Place, there: bool) -> u64
+pub fn count_after(count: u64, place: Option<usize>, there: bool) -> u64
     requires { count < edge }
     ensures { result ≡ count_after count place there }
 {
     match place {
-        Place::At(_) => {
+        Some(_) => {
             if there {
                 return count;
             }
@@ -78,7 +77,7 @@ pub fn count_after(count: u64, place: Place, there: bool) -> u64
             }
             count - 1
         }
-        Place::Nowhere => {
+        None => {
             if there {
                 return count + 1;
             }

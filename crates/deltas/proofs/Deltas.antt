@@ -1,8 +1,8 @@
 -- How records are read by value.
 -- Assumes nothing.
+use Rattle.std.specs.Prelude.{Some}
 use mathlib.Core.Path.{◌≡◌, refl, ap}
 use mathlib.Core.List.{List}
-use mathlib.Core.Option.{some}
 use Prim.Native.Nat.{ℕ, zero, suc, ◌+◌, ◌≤◌}
 use native.Mathlib.Omega.{arith}
 use lib.ListN.{length}
@@ -19,7 +19,6 @@ use Rattle.image.specs.RecordLayout.{fields, change_of, change_part, code_part, 
 use Rattle.image.specs.KindLayout.{kind_at, code_at, code}
 use Rattle.image.specs.Places.{maybe_read}
 use Rattle.image.proofs.Constructs.{reads-coded}
-use Rattle.nodes.specs.Options.{number_of}
 use Rattle.nodes.specs.Listed.{IfAt, Listed, ReadsNames}
 use Rattle.nodes.specs.Attrs.{fields_meant, ReadsAttr}
 use Rattle.deltas.specs.Deltas.{ReadsDelta, ReadsEntry, AttrListed, fields_length, special_delta}
@@ -41,7 +40,7 @@ module _ {img : List ℕ} (d : DirectoryDelta) where
   both-listed (At m) (At q) r a = let e : d.removed.start ≡ m = ap (λ p. p.start) r.place in (rw e a, r.listed)
   both-listed (Stop f) (At q) r a = never-got r.reads.same
 
-  pub reads-directory : {at c1 c2 next : Cursor} → Reads img (maybe_read (number_read edge)) at (number_of d.parent) c1 → ReadsNames img Inode c1 d.added c2
+  pub reads-directory : {at c1 c2 next : Cursor} → Reads img (maybe_read (number_read edge)) at d.parent c1 → ReadsNames img Inode c1 d.added c2
       → ReadsNames img Nothing c2 d.removed next → ReadsDelta img at directory d.attr_delta (Directory d) next
   reads-directory {c2 = c2} {next} p a r = record {
     reads = reads_made _ (λ x. delta (record { fields = fields_meant img d.attr_delta; change = change_of directory x })) (reads-pair _ _ p (reads-pair _ _ a.reads r.reads));
@@ -109,7 +108,7 @@ module _ {img : List ℕ} {n : ℕ} {at start : Cursor} (h : Answers img (number
   pub reads-delta : (m : ℕ) {a : AttrDelta} {o : NodeDelta} {mid next : Cursor} → n ≡ suc m → ReadsAttr img start a mid → ReadsDelta img mid (kind_at m) a o next
       → ReadsEntry img at (E.Node o) next
   reads-delta m {mid = mid} {next} e g d = record {
-    reads = coded (rw e (reads_first fields.read (change_part (kind_at m)).read (λ x t. got (record_at (some (kind_at m)) x) t) g.reads d.reads));
+    reads = coded (rw e (reads_first fields.read (change_part (kind_at m)).read (λ x t. got (record_at (Some (kind_at m)) x) t) g.reads d.reads));
     attributes = changes-end m at start mid next h g d;
     lists = d.listed;
   }

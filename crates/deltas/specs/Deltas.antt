@@ -7,7 +7,7 @@ use Rattle.wire.specs.Reading.{Reads}
 use Rattle.image.specs.Meaning.{Kind, Fields, Change, Delta, Record, directory, file, symlink, special, pipe, character, block, socket, tombstone, delta}
 use Rattle.image.specs.RecordLayout.{fields, change_part, change_of, layer_record}
 use Rattle.image.specs.declared.name.Under.TheVariants as U
-use Rattle.nodes.specs.Options.{number_of, text_of, InsideIf}
+use Rattle.nodes.specs.Options.{text_of, InsideIf}
 use Rattle.nodes.specs.Listed.{list_at, Listed, ListedIf, IfAt}
 use Rattle.nodes.specs.Attrs.{fields_meant}
 use Rattle.nodes.specs.declared.attr.AttrDelta.{AttrDelta}
@@ -28,8 +28,8 @@ attr_of (Socket d) = d.attr_delta
 
 -- "directory: 0 or 1 and parent, added, removed; file: 0 or 1 and size; symlink: 0 or 1 and target; other four: device"
 abbrev pub change_meant : List ℕ → NodeDelta → Change
-change_meant img (Directory d) = directory (number_of d.parent) (list_at img U.Inode d.added) (list_at img U.Nothing d.removed)
-change_meant img (File d) = file (number_of d.size)
+change_meant img (Directory d) = directory d.parent (list_at img U.Inode d.added) (list_at img U.Nothing d.removed)
+change_meant img (File d) = file d.size
 change_meant img (Symlink d) = symlink (text_of img d.target)
 change_meant img (Fifo d) = special pipe d.rdev
 change_meant img (CharDevice d) = special character d.rdev

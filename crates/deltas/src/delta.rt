@@ -6,7 +6,7 @@ ghost use Rattle.deltas.specs.Deltas.{attr_of, special_delta, ReadsDelta, ReadsE
 
 use image::name::Under;
 use nodes::attr::{AttrDelta, read_attr_delta};
-use nodes::option::{OptionPart, OptionU64, read_maybe_number, read_maybe_text};
+use nodes::option::{read_maybe_number, read_maybe_text};
 use nodes::part::{Part, read_names};
 use wire::cursor::Cursor;
 use wire::number::read_number;
@@ -14,7 +14,7 @@ use wire::number::read_number;
 // Added entries and removed names are lists in the image.
 #[derive(Clone, Copy)]
 pub struct DirectoryDelta {
-    pub parent: OptionU64,
+    pub parent: Option<u64>,
     pub added: Part,
     pub removed: Part,
     pub attr_delta: AttrDelta,
@@ -22,14 +22,14 @@ pub struct DirectoryDelta {
 
 #[derive(Clone, Copy)]
 pub struct FileDelta {
-    pub size: OptionU64,
+    pub size: Option<u64>,
     pub attr_delta: AttrDelta,
 }
 
 // The target is a text in the image.
 #[derive(Clone, Copy)]
 pub struct SymlinkDelta {
-    pub target: OptionPart,
+    pub target: Option<Part>,
     pub attr_delta: AttrDelta,
 }
 

@@ -1,9 +1,9 @@
 -- Changes of one inode's live directory delta: set parent, add entry, remove entry.
 -- Assumes nothing.
+use Rattle.std.specs.Prelude.{None, Option, Some}
 use mathlib.Core.Path.{◌≡◌, refl, sym, ap, ◌∙◌}
 use mathlib.Core.Bool.{true, false}
 use mathlib.Core.List.{List, ◌++◌, append_assoc}
-use mathlib.Core.Option.{Option, none, some}
 use Prim.Native.Nat.{ℕ, ◌≤◌, ◌<◌}
 use lib.ListN.{length}
 use borrow.Author.Tests.{le-leb, lt-leb}
@@ -19,10 +19,8 @@ use Rattle.image.specs.FieldLayout.{inode, entries}
 use Rattle.image.specs.KindLayout.{code}
 use Rattle.image.specs.RecordLayout.{changes, names, layer_record}
 use Rattle.image.specs.RoundTrip.{write_image}
-use Rattle.nodes.specs.Options.{number_of}
 use Rattle.nodes.specs.Listed.{list_of, ListedIf}
 use Rattle.nodes.specs.Attrs.{fields_meant}
-use Rattle.nodes.specs.declared.option.OptionU64.TheVariants as I
 use Rattle.nodes.specs.declared.attr.AttrDelta.{AttrDelta}
 use Rattle.writers.specs.Writes.{attr_bytes, fields-bytes}
 use Rattle.records.proofs.Records.{list-bytes}
@@ -66,11 +64,11 @@ pub directory-bytes : (img given newName : List ℕ) (n : NewDirectory) (a : Ent
     → (end : ℕ) × ListedIf img U.Change n.attr_delta.xattrs end
     → list_bytes img given newName n.added ≡ entries.write a → list_bytes img given newName n.removed ≡ names.write b
     → directory_bytes img given newName n ≡ layer_record.write (delta
-    (record { fields = fields_meant img n.attr_delta; change = directory (number_of n.parent) a b }))
+    (record { fields = fields_meant img n.attr_delta; change = directory n.parent a b }))
 unfolding layer_record code
 directory-bytes img given newName n a b l da db =
     let at = n.attr_delta in
-    let parent = (maybe inode).write (number_of n.parent) in
+    let parent = (maybe inode).write n.parent in
     let lb = list-bytes img l.0 at.xattrs l.1 in
     (λ j. number_bytes 1 ++ (attr_bytes at ++ (lb j ++ (parent ++ (da j ++ db j)))))
     ∙ ap (λ (l : List ℕ). number_bytes 1 ++ l)
@@ -91,7 +89,7 @@ module _ {img : List ℕ} {p : Sections} {i : ℕ} {cut : Cut} (c : CutsRecords 
     writes = λ s w.
         let o : IsOther (get by_number i s.live) = rw e at (lives w) in
         ap (one_image img given newName p) q
-        ∙ unchanged-image w c given newName (some o.is) o.same
+        ∙ unchanged-image w c given newName (Some o.is) o.same
         ∙ ap (λ (x : Option Record). write_image (set_live (put by_number i x s.live) s)) (sym (o.stays D));
   }
 
@@ -100,7 +98,7 @@ module _ {img : List ℕ} {p : Sections} {i : ℕ} {cut : Cut} (c : CutsRecords 
     directory-set : (given newName : List ℕ) (D : DirectoryChange) (n : NewDirectory) {new : NewLive} → new ≡ replaced_of cut i (N.Directory n)
         → ((s : Store) → Stands img p s → IsDirectory img d (get by_number i s.live) → directory_bytes img given newName n
         ≡ layer_record.write (on_delta D (fields_meant img d.attr_delta)
-        (directory (number_of d.parent) (list_or img U.Inode d.added) (list_or img U.Nothing d.removed))))
+        (directory d.parent (list_or img U.Inode d.added) (list_or img U.Nothing d.removed))))
         → Alters img given newName p i (on_directory D) new
     directory-set given newName D n q b = record {
       writes = λ s w.
@@ -112,12 +110,12 @@ module _ {img : List ℕ} {p : Sections} {i : ℕ} {cut : Cut} (c : CutsRecords 
 
     -- "set parent"
     pub parent-set : {a b : NewList} {new : NewLive} (q : ℕ) → a ≡ kept_of d.added → b ≡ kept_of d.removed
-        → new ≡ replaced_of cut i (N.Directory (record { attr_delta = d.attr_delta; parent = I.Some q; added = a; removed = b }))
+        → new ≡ replaced_of cut i (N.Directory (record { attr_delta = d.attr_delta; parent = Some q; added = a; removed = b }))
         → Alters img img img p i (on_directory (setting_parent q)) new
     parent-set {a} {b} q ea eb z =
-        directory-set img img (setting_parent q) (record { attr_delta = d.attr_delta; parent = I.Some q; added = a; removed = b }) z
+        directory-set img img (setting_parent q) (record { attr_delta = d.attr_delta; parent = Some q; added = a; removed = b }) z
         (λ s w v.
-        directory-bytes img img img (record { attr_delta = d.attr_delta; parent = I.Some q; added = a; removed = b })
+        directory-bytes img img img (record { attr_delta = d.attr_delta; parent = Some q; added = a; removed = b })
         (list_or img U.Inode d.added) (list_or img U.Nothing d.removed) v.attributes
         (ap (list_bytes img img img) ea ∙ kept-bytes img img img U.Inode d.added v.added.0 v.added.1)
         (ap (list_bytes img img img) eb ∙ kept-bytes img img img U.Nothing d.removed v.removed.0 v.removed.1))
@@ -163,8 +161,8 @@ module _ {c : Call} {i : ℕ} {name : Text} {t : Time} {added removed : NewRow} 
 
 pub naming-add : (i : ℕ) (name : Text) (inode : ℕ) (t : Time) → Naming (Call.add i name inode t) i name t (R.Entry inode) R.Absent
 unfolding result
-naming-add i name inode t = record { in_added = some inode; in_removed = none; adds = refl; removes = tt; refuses = λ s. refl; gives = λ s. refl }
+naming-add i name inode t = record { in_added = Some inode; in_removed = None; adds = refl; removes = tt; refuses = λ s. refl; gives = λ s. refl }
 
 pub naming-remove : (i : ℕ) (name : Text) (t : Time) → Naming (Call.remove i name t) i name t R.Absent R.Name
 unfolding result
-naming-remove i name t = record { in_added = none; in_removed = some tt; adds = tt; removes = refl; refuses = λ s. refl; gives = λ s. refl }
+naming-remove i name t = record { in_added = None; in_removed = Some tt; adds = tt; removes = refl; refuses = λ s. refl; gives = λ s. refl }

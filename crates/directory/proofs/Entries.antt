@@ -1,11 +1,11 @@
 -- A list by name with the row of one name changed.
 -- Assumes nothing.
+use Rattle.std.specs.Prelude.{None, Option, Some}
 use mathlib.Core.Path.{◌≡◌, refl, sym, ap, ◌∙◌}
 use mathlib.Core.Bool.{Bool, true, false, cond}
 use mathlib.Core.List.{List, [], ◌∷◌, ◌++◌, append-nil}
-use Rattle.wire.specs.declared.order.Ordering.{Ordering}
-use Rattle.wire.specs.declared.order.Ordering.TheVariants.{Less, Equal, Greater}
-use mathlib.Core.Option.{Option, none, some}
+use Rattle.std.specs.declared.cmp.Ordering.{Ordering}
+use Rattle.std.specs.declared.cmp.Ordering.TheVariants.{Less, Equal, Greater}
 use Prim.Native.Nat.{ℕ, ◌+◌, ◌-◌, ◌≤◌, ◌<◌, min}
 use native.Mathlib.Omega.{arith}
 use lib.Dec.{ltb}
@@ -21,13 +21,8 @@ use Rattle.image.specs.declared.name.Under.{Under as Sort}
 use Rattle.image.specs.FieldLayout.{name}
 use Rattle.image.specs.Under.{UnderName, under}
 use Rattle.image.specs.Places.{Holds}
-use Rattle.passes.specs.Held.{place_of}
-use Rattle.passes.specs.declared.inode.Place.{Place}
-use Rattle.passes.specs.declared.inode.Place.TheVariants as P
 use Rattle.nodes.specs.Listed.{by_name, list_at, ListedIf}
 use Rattle.nodes.specs.declared.part.Part.{Part}
-use Rattle.nodes.specs.declared.option.OptionPart.{OptionPart}
-use Rattle.nodes.specs.declared.option.OptionPart.TheVariants as M
 use Rattle.writers.proofs.Writing.{list_written}
 use Rattle.rules.specs.Asks.{bad_name}
 use Rattle.change.specs.Sections.{between, Spans}
@@ -63,20 +58,20 @@ module _ (name : Text) where
 row_written : (u : Sort) (k : Text) (given newName : List ℕ) (new : NewRow) (o : Option (UnderName u)) → HasName given newName new k → StandsFor u new o
     → row_bytes given newName new ≡ rows_bytes name (under u) (row_if by_bytes k o)
 unfolding rows_bytes
-row_written u k given newName R.Absent none e h = refl
-row_written u k given newName R.Absent (some v) e h = absurd h
-row_written u k given newName R.Name none e h = absurd h
-row_written u k given newName R.Name (some v) e h = rw (e, h, append-nil (text_bytes k ++ []), append-nil (text_bytes k))
-row_written u k given newName (R.Entry n) none e h = absurd h
-row_written u k given newName (R.Entry n) (some v) e h = rw (e, h, append-nil (text_bytes k ++ number_bytes n))
+row_written u k given newName R.Absent None e h = refl
+row_written u k given newName R.Absent (Some v) e h = absurd h
+row_written u k given newName R.Name None e h = absurd h
+row_written u k given newName R.Name (Some v) e h = rw (e, h, append-nil (text_bytes k ++ []), append-nil (text_bytes k))
+row_written u k given newName (R.Entry n) None e h = absurd h
+row_written u k given newName (R.Entry n) (Some v) e h = rw (e, h, append-nil (text_bytes k ++ number_bytes n))
 
 row-there : (u : Sort) (new : NewRow) (o : Option (UnderName u)) → StandsFor u new o → has_row new ≡ is_there o
-row-there u R.Absent none h = refl
-row-there u R.Absent (some v) h = absurd h
-row-there u R.Name none h = absurd h
-row-there u R.Name (some v) h = refl
-row-there u (R.Entry n) none h = absurd h
-row-there u (R.Entry n) (some v) h = refl
+row-there u R.Absent None h = refl
+row-there u R.Absent (Some v) h = absurd h
+row-there u R.Name None h = absurd h
+row-there u R.Name (Some v) h = refl
+row-there u (R.Entry n) None h = absurd h
+row-there u (R.Entry n) (Some v) h = refl
 
 pub own_name : (k : Text) (new : NewRow) → HasName k k new k
 own_name k R.Absent = tt
@@ -144,38 +139,38 @@ module _ (u : Sort) {img : List ℕ} {to : ℕ} (m : Map by_bytes (UnderName u))
 
 -- ---- the list as it is
 
-pub kept-bytes : (img given newName : List ℕ) (u : Sort) (list : OptionPart) (end : ℕ) → ListedIf img u list end
+pub kept-bytes : (img given newName : List ℕ) (u : Sort) (list : Option Part) (end : ℕ) → ListedIf img u list end
     → list_bytes img given newName (kept_of list) ≡ (by_name u).write (list_or img u list)
 unfolding empty
-kept-bytes img given newName u (M.Some p) end h = list_written u h
-kept-bytes img given newName u M.None end h = sym (append-nil (number_bytes 0))
+kept-bytes img given newName u (Some p) end h = list_written u h
+kept-bytes img given newName u None end h = sym (append-nil (number_bytes 0))
 
-put-absent : {A : Type 0} (k : Text) (m : Map by_bytes A) → get by_bytes k m ≡ none → put by_bytes k none m ≡ m
-put-absent k m e = map-ext by_bytes (put by_bytes k none m) m (λ j. go j (by_bytes.cmp j k) refl)
+put-absent : {A : Type 0} (k : Text) (m : Map by_bytes A) → get by_bytes k m ≡ None → put by_bytes k None m ≡ m
+put-absent k m e = map-ext by_bytes (put by_bytes k None m) m (λ j. go j (by_bytes.cmp j k) refl)
   where
-    go : (j : Text) (d : Ordering) → by_bytes.cmp j k ≡ d → get by_bytes j (put by_bytes k none m) ≡ get by_bytes j m
+    go : (j : Text) (d : Ordering) → by_bytes.cmp j k ≡ d → get by_bytes j (put by_bytes k None m) ≡ get by_bytes j m
     go j Less h = rw (get-put, h)
     go j Greater h = rw (get-put, h)
     go j Equal h = rw (get-put, h, by_bytes.same j k h, e)
 
-not_there : {A : Type 0} (o : Option A) → is_there o ≡ false → o ≡ none
-not_there none h = refl
-not_there (some a) h = cc
+not_there : {A : Type 0} (o : Option A) → is_there o ≡ false → o ≡ None
+not_there None h = refl
+not_there (Some a) h = cc
 
 -- a name that has no row before and none afterwards
 module _ {A : Type 0} (img : List ℕ) (read : List ℕ → Parsed A) where
-  absent-before : (place : Place) (new : NewRow) (x : Option A) → Holds img read (place_of place) x → stays_absent place new ≡ true → x ≡ none
-  absent-before (P.At p) new x h e = cc
-  absent-before P.Nowhere new none h e = refl
-  absent-before P.Nowhere new (some a) h e = absurd h
+  absent-before : (place : Option ℕ) (new : NewRow) (x : Option A) → Holds img read place x → stays_absent place new ≡ true → x ≡ None
+  absent-before (Some p) new x h e = cc
+  absent-before None new None h e = refl
+  absent-before None new (Some a) h e = absurd h
 
-absent-after : (place : Place) (new : NewRow) → stays_absent place new ≡ true → has_row new ≡ false
-absent-after (P.At p) new e = cc
-absent-after P.Nowhere R.Absent e = refl
-absent-after P.Nowhere R.Name e = cc
-absent-after P.Nowhere (R.Entry n) e = cc
+absent-after : (place : Option ℕ) (new : NewRow) → stays_absent place new ≡ true → has_row new ≡ false
+absent-after (Some p) new e = cc
+absent-after None R.Absent e = refl
+absent-after None R.Name e = cc
+absent-after None (R.Entry n) e = cc
 
-module _ (u : Sort) {img : List ℕ} (list : OptionPart) {end : ℕ} (l : ListedIf img u list end) {k : Text} {cut : Cut}
+module _ (u : Sort) {img : List ℕ} (list : Option Part) {end : ℕ} (l : ListedIf img u list end) {k : Text} {cut : Cut}
     (c : CutIs by_bytes name (under u) img k (list_or img u list).rows end cut) where
   list-changed : (new : NewRow) (given newName : List ℕ) → HasName given newName new k → (o : Option (UnderName u)) → StandsFor u new o
       → list_bytes img given newName (cut_list list cut end new) ≡ (by_name u).write (put by_bytes k o (list_or img u list))
@@ -195,7 +190,7 @@ module _ (u : Sort) {img : List ℕ} (list : OptionPart) {end : ℕ} (l : Listed
 
 pub some-changed : {u : Sort} {img : List ℕ} {k : Text} {cut : Cut} {new : NewRow} {p : Part} {e : ℕ}
     → CutsList by_bytes name (under u) img p.start k cut → e ≡ min (p.start + p.length) edge
-    → RowChanged img u (M.Some p) k new (cut_list (M.Some p) cut e new)
+    → RowChanged img u (Some p) k new (cut_list (Some p) cut e new)
 some-changed {u} {img} {k} {cut} {new} {p} {e} c d = record {
   writes = λ short end h given newName x o stands.
       let m = list_at img u p in
@@ -208,17 +203,17 @@ some-changed {u} {img} {k} {cut} {new} {p} {e} c d = record {
         ends = omega (arith, ap length f.0, n, length-drop p.start img, length-drop end img, h.inside, h.ends);
         within = h.inside;
       } in
-      rw z (list-changed u (M.Some p) h (c.cut m end f.1 s) new given newName x o stands);
+      rw z (list-changed u (Some p) h (c.cut m end f.1 s) new given newName x o stands);
 }
 
 abbrev nowhere : Cut
-nowhere = record { count = 0; first = 0; row = 0; after = 0; place = P.Nowhere }
+nowhere = record { count = 0; first = 0; row = 0; after = 0; place = None }
 
-pub none-changed : {u : Sort} {img : List ℕ} {k : Text} {new : NewRow} → RowChanged img u M.None k new (cut_list M.None nowhere 0 new)
+pub none-changed : {u : Sort} {img : List ℕ} {k : Text} {new : NewRow} → RowChanged img u None k new (cut_list None nowhere 0 new)
 unfolding empty rows_below row_here rows_above rows_bytes
 none-changed {u} {img} {k} {new} = record {
   writes = λ short end h given newName x o stands.
       let s : Spans img 0 [] 0 = record { is = refl; ends = refl; within = omega arith } in
-      list-changed u M.None {end = 0} tt {cut = nowhere} (record { count = refl; below = s; here = s; above = s; holds = tt; stands = tt })
+      list-changed u None {end = 0} tt {cut = nowhere} (record { count = refl; below = s; here = s; above = s; holds = tt; stands = tt })
       new given newName x o stands;
 }

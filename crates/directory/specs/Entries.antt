@@ -1,7 +1,7 @@
 -- A list by name with the row of one name changed. Document 01: "Adding takes the name out of removed, and the reverse; both set mtime and
 -- ctime to the given time."
-use Rattle.std.specs.Prelude.{◌≡◌, Bool, true, false, not, cond, List, [], ◌∷◌, ℕ, ◌≤◌, length}
-use Rattle.std.proofs.Math.Option.{Option, none, some}
+use Rattle.nodes.specs.declared.part.Part.{Part}
+use Rattle.std.specs.Prelude.{◌≡◌, Bool, true, false, not, cond, List, [], ◌∷◌, ℕ, ◌≤◌, length, None, Option, Some}
 use Rattle.wire.specs.declared.time.Time.{Time}
 use Rattle.wire.specs.Orders.{by_bytes}
 use Rattle.wire.specs.Maps.{put}
@@ -12,8 +12,6 @@ use Rattle.image.specs.declared.name.Under.TheVariants as U
 use Rattle.image.specs.Under.{UnderName, under}
 use Rattle.nodes.specs.Listed.{by_name, ListedIf}
 use Rattle.nodes.specs.declared.attr.AttrDelta.{AttrDelta}
-use Rattle.nodes.specs.declared.option.OptionPart.{OptionPart}
-use Rattle.nodes.specs.declared.option.OptionTime.TheVariants as T
 use Rattle.rules.specs.Initial.{usual}
 use Rattle.rules.specs.Answers.{first_of}
 use Rattle.rules.specs.Asks.{bad_name}
@@ -23,8 +21,6 @@ use Rattle.rules.specs.Queue.{on_live}
 use Rattle.rules.specs.Refusals.{refusal, bad_time}
 use Rattle.rules.specs.Outcomes.{result}
 use Rattle.rules.specs.ChangeCalls.{by_rules}
-use Rattle.passes.specs.declared.inode.Place.{Place}
-use Rattle.passes.specs.declared.inode.Place.TheVariants as W
 use Rattle.change.specs.Changed.{Changes}
 use Rattle.change.specs.Cuts.{count_after}
 use Rattle.overlay.specs.NewLists.{kept_of, list_bytes}
@@ -59,21 +55,21 @@ changed_rows c end new = record {
 }
 
 -- no row of the name's before, and none afterwards
-abbrev pub stays_absent : Place → NewRow → Bool
-stays_absent (W.At p) new = false
-stays_absent W.Nowhere new = not (has_row new)
+abbrev pub stays_absent : Option ℕ → NewRow → Bool
+stays_absent (Some p) new = false
+stays_absent None new = not (has_row new)
 
-abbrev pub cut_list : OptionPart → Cut → ℕ → NewRow → NewList
+abbrev pub cut_list : Option Part → Cut → ℕ → NewRow → NewList
 cut_list list c end new = cond (stays_absent c.place new) (kept_of list) (L.Changed (changed_rows c end new))
 
 -- what stands under the name afterwards, in a list of this sort
 abbrev pub StandsFor : (u : Under) → NewRow → Option (UnderName u) → Type 0
-StandsFor u R.Absent none = Unit {0}
-StandsFor u R.Absent (some v) = ⊥
-StandsFor u R.Name none = ⊥
-StandsFor u R.Name (some v) = (under u).write v ≡ []
-StandsFor u (R.Entry inode) none = ⊥
-StandsFor u (R.Entry inode) (some v) = (under u).write v ≡ number_bytes inode
+StandsFor u R.Absent None = Unit {0}
+StandsFor u R.Absent (Some v) = ⊥
+StandsFor u R.Name None = ⊥
+StandsFor u R.Name (Some v) = (under u).write v ≡ []
+StandsFor u (R.Entry inode) None = ⊥
+StandsFor u (R.Entry inode) (Some v) = (under u).write v ≡ number_bytes inode
 
 -- the texts given have the name where its row is written
 abbrev pub HasName : List ℕ → List ℕ → NewRow → Text → Type 0
@@ -82,7 +78,7 @@ HasName given newName R.Name name = given ≡ name
 HasName given newName (R.Entry inode) name = newName ≡ name
 
 -- the list is written with the name's row as it is to be
-pub record RowChanged (img : List ℕ) (u : Under) (list : OptionPart) (name : Text) (new : NewRow) (r : NewList) : Type 0 where
+pub record RowChanged (img : List ℕ) (u : Under) (list : Option Part) (name : Text) (new : NewRow) (r : NewList) : Type 0 where
   pub writes :
       length img ≤ 65536 → (end : ℕ) → ListedIf img u list end → (given newName : List ℕ) → HasName given newName new name
       → (o : Option (UnderName u)) → StandsFor u new o
@@ -97,8 +93,8 @@ stamped_of a t = record {
   gid = a.gid;
   nlink = a.nlink;
   atime = a.atime;
-  mtime = T.Some t;
-  ctime = T.Some t;
+  mtime = Some t;
+  ctime = Some t;
   created_at = a.created_at;
   xattrs = a.xattrs;
 }

@@ -13,7 +13,6 @@ use change::cut::cut_records;
 use change::section::{Sections, open_sections};
 use image::name::Under;
 use nodes::attr::AttrDelta;
-use nodes::option::{OptionTime, OptionU64};
 use overlay::delta::{LiveDirectory, live_directory};
 use overlay::list::{NewRow, kept};
 use overlay::record::{NewDirectory, NewRecord};
@@ -125,8 +124,8 @@ fn stamped(attr_delta: AttrDelta, time: Time) -> AttrDelta
     let gid = attr_delta.gid;
     let nlink = attr_delta.nlink;
     let atime = attr_delta.atime;
-    let mtime = OptionTime::Some(time);
-    let ctime = OptionTime::Some(time);
+    let mtime = Some(time);
+    let ctime = Some(time);
     let created_at = attr_delta.created_at;
     let xattrs = attr_delta.xattrs;
     AttrDelta {
@@ -169,7 +168,7 @@ fn with_parent(img: &[u8], sections: Sections, ino: u64, parent: u64) -> NewLive
             let removed = delta.removed;
             let directory = NewDirectory {
                 attr_delta,
-                parent: OptionU64::Some(parent),
+                parent: Some(parent),
                 added: kept(added),
                 removed: kept(removed),
             };

@@ -7,33 +7,33 @@ ghost use Rattle.image.specs.Under.{under};
 ghost use Rattle.change.specs.Cuts.{Cuts, CutsList};
 ghost use Rattle.directory.specs.Entries.{has_row, stays_absent, changed_rows, cut_list, RowChanged};
 
+use nodes::part::Part;
+use std::cmp::Ordering;
 use change::cut::{Cut, count_after};
 use image::name::{Under, pass_under};
-use nodes::option::OptionPart;
 use overlay::list::{Gap, NewList, NewRow, NewRows, kept};
-use passes::inode::Place;
 use wire::cursor::{Cursor, place_at};
 use wire::number::read_number;
-use wire::order::{Ordering, compare_part};
+use wire::order::compare_part;
 use wire::put::advance;
 use wire::text::read_text;
 
 // The list with the row of a name as it is to be.
-pub fn with_row(img: &[u8], list: OptionPart, what: Under, name: &[u8], new: NewRow) -> NewList
+pub fn with_row(img: &[u8], list: Option<Part>, what: Under, name: &[u8], new: NewRow) -> NewList
     ensures { RowChanged img.now what list name.now new result }
 {
     match list {
-        OptionPart::Some(rows) => {
+        Some(rows) => {
             let cut = cut_names(img, rows.start, what, name);
             with_cut(list, cut, advance(rows.start, rows.length), new)
         }
-        OptionPart::None => {
+        None => {
             let cut = Cut {
                 count: 0,
                 first: 0,
                 row: 0,
                 after: 0,
-                place: Place::Nowhere,
+                place: None,
             };
             with_cut(list, cut, 0, new)
         }
@@ -41,7 +41,7 @@ pub fn with_row(img: &[u8], list: OptionPart, what: Under, name: &[u8], new: New
 }
 
 // The list that ends at `end` with another row where it is cut. If the name has none before and after, the list stays.
-fn with_cut(list: OptionPart, cut: Cut, end: usize, new: NewRow) -> NewList
+fn with_cut(list: Option<Part>, cut: Cut, end: usize, new: NewRow) -> NewList
     requires { cut.count ≤ last_count }
     ensures { result ≡ cut_list list cut end new }
 {
@@ -73,12 +73,12 @@ fn changed_rows(cut: Cut, end: usize, new: NewRow) -> NewRows
 }
 
 // Whether a name has no row where the list is cut, and none afterwards.
-fn stays_absent(place: Place, new: NewRow) -> bool
+fn stays_absent(place: Option<usize>, new: NewRow) -> bool
     ensures { result ≡ stays_absent place new }
 {
     match place {
-        Place::At(_) => false,
-        Place::Nowhere => !has_row(new),
+        Some(_) => false,
+        None => !has_row(new),
     }
 }
 
@@ -119,7 +119,7 @@ fn cut_named(img: &[u8], first: usize, count: u64, what: Under, name: &[u8]) -> 
                     first,
                     row,
                     after,
-                    place: Place::At(place_at(start)),
+                    place: Some(place_at(start)),
                 };
             }
             Ordering::Greater => break,
@@ -131,6 +131,6 @@ fn cut_named(img: &[u8], first: usize, count: u64, what: Under, name: &[u8]) -> 
         first,
         row,
         after: row,
-        place: Place::Nowhere,
+        place: None,
     }
 }

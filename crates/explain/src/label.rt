@@ -2,7 +2,7 @@
 ghost use Rattle.std.specs.Prelude.{◌≤◌};
 
 use change::section::open_sections;
-use passes::inode::{Held, Place, find_inode};
+use passes::inode::{Held, find_inode};
 use wire::cursor::Cursor;
 use wire::number::read_number;
 use writers::batch::read_batch_head;
@@ -15,10 +15,10 @@ pub struct Labels {
     pub batches: usize,
 }
 
-fn place_or_0(place: Place) -> usize {
+fn place_or_0(place: Option<usize>) -> usize {
     match place {
-        Place::At(at) => at,
-        Place::Nowhere => 0,
+        Some(at) => at,
+        None => 0,
     }
 }
 

@@ -5,7 +5,7 @@ ghost use Rattle.stack.specs.Stacks.{Stacked};
 use crate::label::Labels;
 use attrs::node::FileType;
 use layers::answer::InodeAnswer;
-use stack::file_type::{OptionType, base_type, entry_type};
+use stack::file_type::{base_type, entry_type};
 use stack::stack::{base_node, record_at};
 use std::io;
 use survey::batch::InodeLayerStack;
@@ -94,8 +94,8 @@ pub fn write_record(
     let shown = entry_type(record_at(img, stack, i));
     let said = says_at(img, stack, i, name);
     match shown {
-        OptionType::Some(file_type) => write_delta(rt, file_type, said)?,
-        OptionType::None => say(rt, b"tombstone")?,
+        Some(file_type) => write_delta(rt, file_type, said)?,
+        None => say(rt, b"tombstone")?,
     }
     end_line(rt, decides)
 }
@@ -123,8 +123,8 @@ pub fn write_base(
     let shown = base_type(base_node(img, stack));
     let said = base_says(img, stack, name);
     match shown {
-        OptionType::Some(file_type) => write_node(rt, file_type, said)?,
-        OptionType::None => say(rt, b"no node")?,
+        Some(file_type) => write_node(rt, file_type, said)?,
+        None => say(rt, b"no node")?,
     }
     end_line(rt, decides)
 }

@@ -1,9 +1,9 @@
 -- What a reply says, by the answer that it was made of.
 -- Assumes nothing.
+use Rattle.std.specs.Prelude.{None, Option, Some}
 use mathlib.Core.Path.{◌≡◌, refl, sym, ap, ◌∙◌}
 use mathlib.Core.Bool.{true}
 use mathlib.Core.List.{List, [], ◌∷◌}
-use mathlib.Core.Option.{Option, none, some}
 use Prim.Native.Nat.{ℕ, zero, suc}
 use native.Mathlib.Omega.{arith}
 use lib.ListN.{length, take, drop, length-take, length-drop, drop_of_length-le}
@@ -40,7 +40,7 @@ module _ (img : List ℕ) where
   pub no-text-refused : {def : Answer (Option Text)} {n : ℕ} {r : TextReply} → def ≡ refused n → r ≡ no_text n → TextReplies img def r
   no-text-refused d e = record { refusal = rw (d, e); found = rw (d, e); text = rw (d, e); size = rw (d, e); inside = rw e (omega arith) }
 
-  pub no-text-found : {r : TextReply} → r ≡ no_text 0 → TextReplies img (answer none) r
+  pub no-text-found : {r : TextReply} → r ≡ no_text 0 → TextReplies img (answer None) r
   no-text-found e = record { refusal = rw e; found = rw e; text = rw e; size = rw e; inside = rw e (omega arith) }
 
   -- what there is of a part is a part
@@ -51,7 +51,7 @@ module _ (img : List ℕ) where
 
   module _ (start size : ℕ) {bytes : List ℕ} (e : bytes ≡ part img start size) where
     abbrev Found : ℕ → Type 0
-    Found at = TextReplies img (answer (some (part img start size))) (record { refusal = 0; found = true; start = at; «length» = length bytes })
+    Found at = TextReplies img (answer (Some (part img start size))) (record { refusal = 0; found = true; start = at; «length» = length bytes })
 
     pub text-found : (length bytes ≡ 0 → ⊥) → Found start
     text-found some_bytes = record {

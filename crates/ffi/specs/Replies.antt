@@ -1,7 +1,6 @@
 -- What each reply says of the answer that a call's definition gives. Document 01: "A refusal gives its number, length 0 and, for a text, the
 -- empty part; target and rows stay." "'None' is an answer." A reply's `refusal` is 0 where there is none.
-use Rattle.std.specs.Prelude.{◌≡◌, Bool, true, false, cond, List, ℕ, ◌+◌, ◌≤◌, ℤ, pos, ltb, length}
-use Rattle.std.proofs.Math.Option.{Option, none, some}
+use Rattle.std.specs.Prelude.{◌≡◌, Bool, true, false, cond, List, ℕ, ◌+◌, ◌≤◌, ℤ, pos, ltb, length, None, Option, Some}
 use Rattle.wire.specs.Reading.{part}
 use Rattle.wire.specs.declared.time.Time.{Time}
 use Rattle.image.specs.Meaning.{Text, Kind, kind_number}
@@ -39,14 +38,14 @@ yes_no_reply (answer b) = record { refusal = 0; yes = b }
 -- "kind 0 to 6 in the order above"
 abbrev pub type_reply : Answer (Option Kind) → TypeReply
 type_reply (refused n) = record { refusal = n; found = false; kind = 0 }
-type_reply (answer none) = record { refusal = 0; found = false; kind = 0 }
-type_reply (answer (some k)) = record { refusal = 0; found = true; kind = kind_number k }
+type_reply (answer None) = record { refusal = 0; found = false; kind = 0 }
+type_reply (answer (Some k)) = record { refusal = 0; found = true; kind = kind_number k }
 
 -- "its inode", or "none"
 abbrev pub inode_reply : Answer (Option ℕ) → InodeReply
 inode_reply (refused n) = record { refusal = n; found = false; inode = 0 }
-inode_reply (answer none) = record { refusal = 0; found = false; inode = 0 }
-inode_reply (answer (some i)) = record { refusal = 0; found = true; inode = i }
+inode_reply (answer None) = record { refusal = 0; found = false; inode = 0 }
+inode_reply (answer (Some i)) = record { refusal = 0; found = true; inode = i }
 
 -- ---- attributes
 
@@ -84,8 +83,8 @@ no_attr n = record {
 -- "a tombstone clears": no attributes is an answer
 abbrev pub attr_reply : Answer (Option FileAttr) → AttrReply
 attr_reply (refused n) = no_attr n
-attr_reply (answer none) = no_attr 0
-attr_reply (answer (some a)) = record { refusal = 0; found = true; attr = attr_out a }
+attr_reply (answer None) = no_attr 0
+attr_reply (answer (Some a)) = record { refusal = 0; found = true; attr = attr_out a }
 
 -- ---- texts
 
@@ -118,8 +117,8 @@ count_reply (Rows.Rows n) lent = record { refusal = 0; found = true; count = con
 -- "A listing fills a lent row of entries": how many
 abbrev pub rows_reply : Answer (Option (List Row)) → RowsReply
 rows_reply (refused n) = record { refusal = n; found = false; count = 0 }
-rows_reply (answer none) = record { refusal = 0; found = false; count = 0 }
-rows_reply (answer (some l)) = record { refusal = 0; found = true; count = length l }
+rows_reply (answer None) = record { refusal = 0; found = false; count = 0 }
+rows_reply (answer (Some l)) = record { refusal = 0; found = true; count = length l }
 
 -- reply and rows are those of the call's definition: "Rows past the last stay."
 pub record RowsReplies (def : Answer (Option (List Row))) (old new : List Entry) (r : RowsReply) : Type 0 where

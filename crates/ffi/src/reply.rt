@@ -7,10 +7,10 @@ ghost use Rattle.attrs.specs.Meant.{kind_meant, attr_meant};
 ghost use Rattle.layers.specs.Answered.{yes_no, type_answered, inode_answered, attr_answered};
 ghost use Rattle.ffi.specs.Replies.{yes_no_reply, type_reply, inode_reply, time_out, attr_out, no_attr, attr_reply, no_text, TextReplies, time_given, reply_of};
 
+use nodes::part::Part;
 use attrs::node::{FileAttr, FileType};
 use change::answer::ChangeAnswer;
 use layers::answer::{AttrAnswer, InodeAnswer, TypeAnswer, YesNo};
-use nodes::option::OptionPart;
 use wire::part::part;
 use wire::time::Time;
 
@@ -251,10 +251,10 @@ pub fn no_text(refusal: u32) -> TextReply
 }
 
 // Of a text that is empty the place says nothing: it is the part at 0.
-pub fn text_reply(img: &[u8], text: OptionPart) -> TextReply
+pub fn text_reply(img: &[u8], text: Option<Part>) -> TextReply
     ensures { TextReplies img.now (answer (textMeant img.now text)) result }
 {
-    let OptionPart::Some(place) = text else {
+    let Some(place) = text else {
         return no_text(0);
     };
     let bytes = part(img, place.start, place.length);

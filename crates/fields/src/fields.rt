@@ -2,33 +2,34 @@
 ghost use Rattle.std.specs.Prelude.{◌≡◌};
 ghost use Rattle.fields.specs.Fields.{or_word, or_time, or_part, words_over, times_over, attr_over};
 
+use nodes::part::Part;
+use wire::time::Time;
 use nodes::attr::{AttrDelta, Times, Words};
-use nodes::option::{OptionPart, OptionTime, OptionU32};
 
-fn or_u32(new: OptionU32, old: OptionU32) -> OptionU32
+fn or_u32(new: Option<u32>, old: Option<u32>) -> Option<u32>
     ensures { result ≡ or_word new old }
 {
     match new {
-        OptionU32::Some(number) => OptionU32::Some(number),
-        OptionU32::None => old,
+        Some(number) => Some(number),
+        None => old,
     }
 }
 
-fn or_time(new: OptionTime, old: OptionTime) -> OptionTime
+fn or_time(new: Option<Time>, old: Option<Time>) -> Option<Time>
     ensures { result ≡ or_time new old }
 {
     match new {
-        OptionTime::Some(time) => OptionTime::Some(time),
-        OptionTime::None => old,
+        Some(time) => Some(time),
+        None => old,
     }
 }
 
-fn or_part(new: OptionPart, old: OptionPart) -> OptionPart
+fn or_part(new: Option<Part>, old: Option<Part>) -> Option<Part>
     ensures { result ≡ or_part new old }
 {
     match new {
-        OptionPart::Some(part) => OptionPart::Some(part),
-        OptionPart::None => old,
+        Some(part) => Some(part),
+        None => old,
     }
 }
 

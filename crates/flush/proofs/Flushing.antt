@@ -1,8 +1,8 @@
 -- Fold and snapshot: their new images, and how they end.
 -- Assumes nothing.
+use Rattle.std.specs.Prelude.{None}
 use mathlib.Core.Path.{◌≡◌, refl, ap, ◌∙◌}
 use mathlib.Core.Bool.{Bool, true, false, cond}
-use mathlib.Core.Option.{none}
 use mathlib.Core.List.{List, [], ◌∷◌, append-nil}
 use Prim.Native.Nat.{ℕ, ◌+◌, min}
 use native.Mathlib.Omega.{arith}
@@ -93,7 +93,7 @@ snapshot-fits {img} {p} {s} w room = over-fine _ img w.short w.is ∙ go (has_ro
 tail-fits : {s : Store} → FitsStore s → tail.Fits (tail_of s)
 tail-fits f = (f.next, (f.bytes, (f.operations, f.request)))
 
-some-batch : (bs : List Batch) → (length bs ≡ 0 → ⊥) → first_of ((8, is_empty bs) ∷ []) ≡ none
+some-batch : (bs : List Batch) → (length bs ≡ 0 → ⊥) → first_of ((8, is_empty bs) ∷ []) ≡ None
 some-batch [] h = absurd (h refl)
 some-batch (b ∷ bs) h = refl
 

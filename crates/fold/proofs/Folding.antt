@@ -1,7 +1,7 @@
 -- The node that the code makes of a stack, and how it is written.
 -- Assumes nothing.
+use Rattle.std.specs.Prelude.{None, Option, Some}
 use mathlib.Core.Path.{◌≡◌, refl, sym, ap, ◌∙◌}
-use mathlib.Core.Option.{Option, none, some}
 use mathlib.Core.Bool.{Bool, true, false}
 use mathlib.Core.List.{List, ◌++◌, append_assoc, append-nil}
 use Prim.Native.Nat.{ℕ, ◌+◌, ◌≤◌, ◌<◌}
@@ -19,7 +19,6 @@ use Rattle.image.specs.Meaning.{Entries, Attributes, kind_number, kind_of, chang
 use Rattle.image.specs.FieldLayout.{attributes, entries}
 use Rattle.image.specs.KindLayout.{kind}
 use Rattle.image.specs.NodeLayout.{node}
-use Rattle.passes.specs.Held.{place_of}
 use Rattle.image.specs.Under.{UnderName}
 use Rattle.image.specs.declared.name.Under.{Under}
 use Rattle.image.specs.declared.name.Under.TheVariants as U
@@ -35,7 +34,6 @@ use Rattle.deltas.specs.declared.delta.NodeDelta.{NodeDelta}
 use Rattle.deltas.specs.declared.delta.EntryDelta.{EntryDelta}
 use Rattle.deltas.specs.declared.delta.EntryDelta.TheVariants as E
 use Rattle.nodes.specs.declared.part.Part.{Part}
-use Rattle.nodes.specs.declared.option.OptionPart.TheVariants as T
 use Rattle.nodes.specs.declared.node.NodeKind.{NodeKind}
 use Rattle.nodes.specs.declared.node.NodeKind.TheVariants as K
 use Rattle.nodes.specs.declared.node.Node.{Node}
@@ -49,8 +47,6 @@ use Rattle.writers.proofs.Written.{meta-with-bytes}
 use Rattle.records.specs.Records.{body_bytes}
 use Rattle.writers.proofs.Writing.{list_written}
 use Rattle.stack.specs.Stacks.{Stacked, records_under, records_in, node_in, RecordIs, BaseIs}
-use Rattle.stack.specs.declared.stack.OptionNode.{OptionNode}
-use Rattle.stack.specs.declared.stack.OptionNode.TheVariants as B
 use Rattle.stack.proofs.Walks.{records-more}
 use Rattle.apply.specs.Folded.{body_with, node_with, on_attributes, on_entries, FirstNode, AppliesNode}
 use Rattle.fold.specs.Lists.{attributes_of, entries_of}
@@ -58,8 +54,6 @@ use Rattle.fold.specs.FoldedNodes.{Comes, AttributesAfter, EntriesAfter, entries
 use Rattle.fold.specs.declared.folded.Origin.{Origin}
 use Rattle.fold.specs.declared.folded.Origin.TheVariants as From
 use Rattle.fold.specs.declared.folded.Folded.{Folded}
-use Rattle.fold.specs.declared.folded.OptionFolded.{OptionFolded}
-use Rattle.fold.specs.declared.folded.OptionFolded.TheVariants as O
 use Rattle.fold.proofs.Folds.{attributes-fold, entries-fold, entries_in}
 
 -- ---- the kind of a node, whatever its lists
@@ -78,7 +72,7 @@ shows-kind {img} {f} h = kind-with img f.node.kind h.entries ∙ ap (λ (x : M.N
 
 -- ---- where its lists come from, after a delta
 
-pub attributes-stay : {d : NodeDelta} {o : Origin} → (attr_of d).xattrs ≡ T.None → AttributesAfter d o o
+pub attributes-stay : {d : NodeDelta} {o : Origin} → (attr_of d).xattrs ≡ None → AttributesAfter d o o
 attributes-stay e = record { makes = λ img vs h. rw e h }
 
 other-change : (img : List ℕ) (es : Entries) (d : NodeDelta) → OneOf not_directory (tag_of deltas.the_type d) → on_entries (change_meant img d) es ≡ es
@@ -112,24 +106,24 @@ module _ (d : NodeDelta) (n : Folded) (t : FileType) {b : Bool} (s : (img : List
   pub delta-other : b ≡ false → FoldsDelta d n n
   delta-other e = record { makes = λ img m h. rw (same-told h, e) h }
 
-pub record-on : {d : NodeDelta} {n r : Folded} → FoldsDelta d n r → FoldsRecord (E.Node d) (O.Some n) (O.Some r)
+pub record-on : {d : NodeDelta} {n r : Folded} → FoldsDelta d n r → FoldsRecord (E.Node d) (Some n) (Some r)
 unfolding fold_record
 record-on {d} {n} {r} f = record { makes = go }
   where
-    go : (img : List ℕ) (m : Option M.Node) → ShowsIf img (O.Some n) m → ShowsIf img (O.Some r) (fold_record usual (delta (delta_meant img d)) m)
-    go img none h = absurd h
-    go img (some m) h = f.makes img m h
+    go : (img : List ℕ) (m : Option M.Node) → ShowsIf img (Some n) m → ShowsIf img (Some r) (fold_record usual (delta (delta_meant img d)) m)
+    go img None h = absurd h
+    go img (Some m) h = f.makes img m h
 
 pub record-first : (d : NodeDelta) (n : Node) (r : Folded) → FirstNode d n → AppliesNode d n r.node → AttributesAfter d From.Nothing r.attributes → EntriesAfter d From.Nothing r.entries
-    → FoldsRecord (E.Node d) O.None (O.Some r)
+    → FoldsRecord (E.Node d) None (Some r)
 unfolding fold_record
 record-first d n r g f u v = record { makes = go }
   where
-    go : (img : List ℕ) (m : Option M.Node) → ShowsIf img O.None m → ShowsIf img (O.Some r) (fold_record usual (delta (delta_meant img d)) m)
-    go img none h = after img d n r f u v (empty by_bytes) (empty by_bytes) refl refl (g img)
-    go img (some m) h = absurd h
+    go : (img : List ℕ) (m : Option M.Node) → ShowsIf img None m → ShowsIf img (Some r) (fold_record usual (delta (delta_meant img d)) m)
+    go img None h = after img d n r f u v (empty by_bytes) (empty by_bytes) refl refl (g img)
+    go img (Some m) h = absurd h
 
-pub record-gone : (o : OptionFolded) → FoldsRecord E.Tombstone o O.None
+pub record-gone : (o : Option Folded) → FoldsRecord E.Tombstone o None
 unfolding fold_record
 record-gone o = record { makes = λ img m h. tt }
 
@@ -160,19 +154,19 @@ base-entries img (K.CharDevice rdev) end h = refl
 base-entries img (K.BlockDevice rdev) end h = refl
 base-entries img K.Socket end h = refl
 
-pub base-none : FoldsBase B.None O.None
+pub base-none : FoldsBase None None
 base-none = record { makes = go }
   where
-    go : (img : List ℕ) (p : Option ℕ) → BaseIs img p B.None → ShowsIf img O.None (unplaced_node (node_at img p))
-    go img none b = tt
-    go img (some p) b = absurd b
+    go : (img : List ℕ) (p : Option ℕ) → BaseIs img p None → ShowsIf img None (unplaced_node (node_at img p))
+    go img None b = tt
+    go img (Some p) b = absurd b
 
-pub base-shows : (n : Node) {o : Origin} → o ≡ entries_from n.kind → FoldsBase (B.Some n) (O.Some (record { node = n; attributes = From.Base n.meta.xattrs; entries = o }))
+pub base-shows : (n : Node) {o : Origin} → o ≡ entries_from n.kind → FoldsBase (Some n) (Some (record { node = n; attributes = From.Base n.meta.xattrs; entries = o }))
 base-shows n {o} e = record { makes = go }
   where
-    go : (img : List ℕ) (p : Option ℕ) → BaseIs img p (B.Some n) → ShowsIf img (O.Some (record { node = n; attributes = From.Base n.meta.xattrs; entries = o })) (unplaced_node (node_at img p))
-    go img none b = absurd b
-    go img (some p) b = rw b.reads.reads.same (record {
+    go : (img : List ℕ) (p : Option ℕ) → BaseIs img p (Some n) → ShowsIf img (Some (record { node = n; attributes = From.Base n.meta.xattrs; entries = o })) (unplaced_node (node_at img p))
+    go img None b = absurd b
+    go img (Some p) b = rw b.reads.reads.same (record {
       attributes = list_at img U.Value n.meta.xattrs;
       entries = entries_in (body_meant img n.kind);
       is = rw (body-shows img n.kind);
@@ -181,16 +175,16 @@ base-shows n {o} e = record { makes = go }
     })
 
 -- the node of the lowest i records
-pub record Rising (img : List ℕ) (s : InodeLayerStack) (o : OptionFolded) (i : ℕ) : Type 0 where
+pub record Rising (img : List ℕ) (s : InodeLayerStack) (o : Option Folded) (i : ℕ) : Type 0 where
   pub low : i ≤ s.count
   pub shows : ShowsIf img o (folded usual (unplaced (records_under img s i)) (unplaced_node (node_in img s)))
 
-module _ {img : List ℕ} {s : InodeLayerStack} {o : OptionFolded} where
-  pub rising-base : {b : OptionNode} → BaseIs img (place_of s.base) b → FoldsBase b o → Rising img s o 0
+module _ {img : List ℕ} {s : InodeLayerStack} {o : Option Folded} where
+  pub rising-base : {b : Option Node} → BaseIs img s.base b → FoldsBase b o → Rising img s o 0
   unfolding records_on folded
-  rising-base b f = record { low = omega arith; shows = f.makes img (place_of s.base) b }
+  rising-base b f = record { low = omega arith; shows = f.makes img s.base b }
 
-  pub rising-more : Stacked img s → {i : ℕ} → Rising img s o i → i < s.count → {e : EntryDelta} → RecordIs img (get_or s.deltas i 0) e → {r : OptionFolded} → FoldsRecord e o r
+  pub rising-more : Stacked img s → {i : ℕ} → Rising img s o i → i < s.count → {e : EntryDelta} → RecordIs img (get_or s.deltas i 0) e → {r : Option Folded} → FoldsRecord e o r
       → Rising img s r (i + 1)
   unfolding folded
   rising-more h {i} w l g f = record { low = omega arith; shows = rw (records-more h i l g) (f.makes img _ w.shows) }
@@ -215,7 +209,7 @@ with_entries img (K.CharDevice rdev) es d = absurd (let z : ◌≡◌ {A = ℕ} 
 with_entries img (K.BlockDevice rdev) es d = absurd (let z : ◌≡◌ {A = ℕ} 0 1 = cc in omega arith)
 with_entries img K.Socket es d = absurd (let z : ◌≡◌ {A = ℕ} 0 1 = cc in omega arith)
 
-module _ (img : List ℕ) (s : InodeLayerStack) {f : Folded} {m : M.Node} (e : folded_in img s ≡ some m) (h : Shows img f m) where
+module _ (img : List ℕ) (s : InodeLayerStack) {f : Folded} {m : M.Node} (e : folded_in img s ≡ Some m) (h : Shows img f m) where
   attribute-bytes : (t : FileType) → ((x : List ℕ) → kind_meant t ≡ kind_of (body_meant x f.node.kind))
       → origin_bytes img f.attributes (attributes.write (attributes_of img s t)) ≡ attributes.write h.attributes
   attribute-bytes t k =
@@ -232,9 +226,9 @@ pub merged-folds : {img : List ℕ} {s : InodeLayerStack} {f : Folded} {old : Li
     → Put old at (bytes_if (folded_in img s)) r new
 merged-folds {img} {s} {f} {old} {at} {r} {new} g w = go (folded_in img s) refl g.shows
   where
-    go : (o : Option M.Node) → folded_in img s ≡ o → ShowsIf img (O.Some f) o → Put old at (bytes_if o) r new
-    go none e h = absurd h
-    go (some m) e h = rw h.is at (w.puts h.attributes h.entries (attribute-bytes img s e h w.type w.same) (entry-bytes img s e h))
+    go : (o : Option M.Node) → folded_in img s ≡ o → ShowsIf img (Some f) o → Put old at (bytes_if o) r new
+    go None e h = absurd h
+    go (Some m) e h = rw h.is at (w.puts h.attributes h.entries (attribute-bytes img s e h w.type w.same) (entry-bytes img s e h))
 
 -- ---- as it is written
 

@@ -1,7 +1,7 @@
 -- What the lists of a stack come to is what its folded node has.
 -- Assumes nothing.
+use Rattle.std.specs.Prelude.{None, Option, Some}
 use mathlib.Core.Path.{◌≡◌, refl, sym, ap, ◌∙◌}
-use mathlib.Core.Option.{Option, none, some}
 use mathlib.Core.Bool.{Bool, true, false}
 use mathlib.Core.List.{List, [], ◌∷◌, ◌++◌}
 use Prim.Native.Nat.{ℕ}
@@ -69,8 +69,8 @@ same_self (special socket) = refl
 module _ (p : ℕ) (f : Fields) where
   alter-fold : (o : Option Changes) (below : List Deciding) → map_values by_bytes valued (merges (alter_pile p f o ++ below)) ≡ meet alter_all o (map_values by_bytes valued (merges below))
   unfolding merged
-  alter-fold none below = refl
-  alter-fold (some cs) below = changes-forget (changes_at p f cs) cs (merges below)
+  alter-fold None below = refl
+  alter-fold (Some cs) below = changes-forget (changes_at p f cs) cs (merges below)
 
   change-fold : (c : Change) (below : List Deciding) → map_values by_bytes inoded (merges (change_pile p f c ++ below)) ≡ on_entries c (map_values by_bytes inoded (merges below))
   unfolding merged
@@ -83,35 +83,35 @@ module _ (p : ℕ) (f : Fields) where
 
 -- ---- no node: nothing is listed
 
-gone : {A : Type 0} {m : M.Node} → none ≡ some m → A
+gone : {A : Type 0} {m : M.Node} → None ≡ Some m → A
 gone e = absurd (let z : ◌≡◌ {A = ℕ} 0 1 = cc in omega arith)
 
-there : {A : Type 0} {m : M.Node} → some m ≡ none → A
+there : {A : Type 0} {m : M.Node} → Some m ≡ None → A
 there e = absurd (let z : ◌≡◌ {A = ℕ} 0 1 = cc in omega arith)
 
-no-base : (l : Lists) → node_pile l none ≡ []
+no-base : (l : Lists) → node_pile l None ≡ []
 no-base L.Entries = refl
 no-base L.Attributes = refl
 no-base (L.AttributesOf t) = refl
 
-no_node : (l : Lists) (rs : List (Placed Record)) (b : Option (Placed M.Node)) → folded usual (unplaced rs) (unplaced_node b) ≡ none → pile_of l rs b ≡ []
+no_node : (l : Lists) (rs : List (Placed Record)) (b : Option (Placed M.Node)) → folded usual (unplaced rs) (unplaced_node b) ≡ None → pile_of l rs b ≡ []
 unfolding folded fold_record
-no_node l [] none h = no-base l
-no_node l [] (some n) h = there h
+no_node l [] None h = no-base l
+no_node l [] (Some n) h = there h
 no_node l (r ∷ rs) b h = go r.held (folded usual (unplaced rs) (unplaced_node b)) h
   where
-    go : (x : Record) (o : Option M.Node) → fold_record usual x o ≡ none → record_pile l r.place x (pile_of l rs b) ≡ []
+    go : (x : Record) (o : Option M.Node) → fold_record usual x o ≡ None → record_pile l r.place x (pile_of l rs b) ≡ []
     go tombstone o e = refl
-    go (delta d) none e = there e
-    go (delta d) (some n) e = there e
+    go (delta d) None e = there e
+    go (delta d) (Some n) e = there e
 
 -- ---- attributes
 
-pub attributes-fold : (t : FileType) (rs : List (Placed Record)) (b : Option (Placed M.Node)) (m : M.Node) → folded usual (unplaced rs) (unplaced_node b) ≡ some m → kind_meant t ≡ kind_of m.body
+pub attributes-fold : (t : FileType) (rs : List (Placed Record)) (b : Option (Placed M.Node)) (m : M.Node) → folded usual (unplaced rs) (unplaced_node b) ≡ Some m → kind_meant t ≡ kind_of m.body
     → map_values by_bytes valued (merges (pile_of (L.AttributesOf t) rs b)) ≡ m.meta.attributes
 unfolding folded fold_record merged
-attributes-fold t [] none m h k = gone h
-attributes-fold t [] (some n) m h k =
+attributes-fold t [] None m h k = gone h
+attributes-fold t [] (Some n) m h k =
     let z : n.held ≡ m = cc in
     values-forget (attributes_at n.place n.held.meta) n.held.meta.attributes ∙ ap (λ (x : M.Node). x.meta.attributes) z
 attributes-fold t (r ∷ rs) b m h k = go r.held (folded usual (unplaced rs) (unplaced_node b)) refl h (attributes-fold t rs b)
@@ -119,15 +119,15 @@ attributes-fold t (r ∷ rs) b m h k = go r.held (folded usual (unplaced rs) (un
     below : List Deciding
     below = pile_of (L.AttributesOf t) rs b
 
-    go : (x : Record) (o : Option M.Node) → folded usual (unplaced rs) (unplaced_node b) ≡ o → fold_record usual x o ≡ some m
-        → ((n : M.Node) → folded usual (unplaced rs) (unplaced_node b) ≡ some n → kind_meant t ≡ kind_of n.body → map_values by_bytes valued (merges below) ≡ n.meta.attributes)
+    go : (x : Record) (o : Option M.Node) → folded usual (unplaced rs) (unplaced_node b) ≡ o → fold_record usual x o ≡ Some m
+        → ((n : M.Node) → folded usual (unplaced rs) (unplaced_node b) ≡ Some n → kind_meant t ≡ kind_of n.body → map_values by_bytes valued (merges below) ≡ n.meta.attributes)
         → map_values by_bytes valued (merges (record_pile (L.AttributesOf t) r.place x below)) ≡ m.meta.attributes
     go tombstone o e h ih = gone h
-    go (delta d) none e h ih =
+    go (delta d) None e h ih =
         let z : applied d (first_node usual d.change) ≡ m = cc in
         let kind : kind_meant t ≡ changed_kind d.change = k ∙ ap (λ (x : M.Node). kind_of x.body) (sym z) ∙ on-kind d.change (first_body d.change) ∙ first_kind d.change in
         rw (kind, same_self (changed_kind d.change), no_node (L.AttributesOf t) rs b e, alter-fold r.place d.fields d.fields.attributes [], map-empty by_bytes valued) (ap (λ (x : M.Node). x.meta.attributes) z)
-    go (delta d) (some n) e h ih = test (same_kind (changed_kind d.change) (kind_of n.body)) refl (ih n e)
+    go (delta d) (Some n) e h ih = test (same_kind (changed_kind d.change) (kind_of n.body)) refl (ih n e)
       where
         test : (q : Bool) → same_kind (changed_kind d.change) (kind_of n.body) ≡ q → (kind_meant t ≡ kind_of n.body → map_values by_bytes valued (merges below) ≡ n.meta.attributes)
             → map_values by_bytes valued (merges (delta_pile (L.AttributesOf t) r.place d ++ below)) ≡ m.meta.attributes
@@ -180,11 +180,11 @@ other_entries (file n) b es s k = refl
 other_entries (symlink t) b es s k = refl
 other_entries (special x device) b es s k = refl
 
-pub entries-fold : (rs : List (Placed Record)) (b : Option (Placed M.Node)) (m : M.Node) → folded usual (unplaced rs) (unplaced_node b) ≡ some m → kind_of m.body ≡ directory
+pub entries-fold : (rs : List (Placed Record)) (b : Option (Placed M.Node)) (m : M.Node) → folded usual (unplaced rs) (unplaced_node b) ≡ Some m → kind_of m.body ≡ directory
     → map_values by_bytes inoded (merges (pile_of L.Entries rs b)) ≡ entries_in m.body
 unfolding folded fold_record merged
-entries-fold [] none m h k = gone h
-entries-fold [] (some n) m h k =
+entries-fold [] None m h k = gone h
+entries-fold [] (Some n) m h k =
     let z : n.held ≡ m = cc in
     body-fold n.place n.held.meta n.held.body ∙ ap (λ (x : M.Node). entries_in x.body) z
 entries-fold (r ∷ rs) b m h k = go r.held (folded usual (unplaced rs) (unplaced_node b)) refl h (entries-fold rs b)
@@ -192,14 +192,14 @@ entries-fold (r ∷ rs) b m h k = go r.held (folded usual (unplaced rs) (unplace
     below : List Deciding
     below = pile_of L.Entries rs b
 
-    go : (x : Record) (o : Option M.Node) → folded usual (unplaced rs) (unplaced_node b) ≡ o → fold_record usual x o ≡ some m
-        → ((n : M.Node) → folded usual (unplaced rs) (unplaced_node b) ≡ some n → kind_of n.body ≡ directory → map_values by_bytes inoded (merges below) ≡ entries_in n.body)
+    go : (x : Record) (o : Option M.Node) → folded usual (unplaced rs) (unplaced_node b) ≡ o → fold_record usual x o ≡ Some m
+        → ((n : M.Node) → folded usual (unplaced rs) (unplaced_node b) ≡ Some n → kind_of n.body ≡ directory → map_values by_bytes inoded (merges below) ≡ entries_in n.body)
         → map_values by_bytes inoded (merges (record_pile L.Entries r.place x below)) ≡ entries_in m.body
     go tombstone o e h ih = gone h
-    go (delta d) none e h ih =
+    go (delta d) None e h ih =
         let z : applied d (first_node usual d.change) ≡ m = cc in
         rw (no_node L.Entries rs b e, change-fold r.place d.fields d.change [], map-empty by_bytes inoded) (first-entries d.change ∙ ap (λ (x : M.Node). entries_in x.body) z)
-    go (delta d) (some n) e h ih = test (same_kind (changed_kind d.change) (kind_of n.body)) refl (ih n e)
+    go (delta d) (Some n) e h ih = test (same_kind (changed_kind d.change) (kind_of n.body)) refl (ih n e)
       where
         test : (q : Bool) → same_kind (changed_kind d.change) (kind_of n.body) ≡ q → (kind_of n.body ≡ directory → map_values by_bytes inoded (merges below) ≡ entries_in n.body)
             → map_values by_bytes inoded (merges (change_pile r.place d.fields d.change ++ below)) ≡ entries_in m.body

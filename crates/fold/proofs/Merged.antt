@@ -1,14 +1,14 @@
 -- The sources of a stack give the rows of the lists that fold makes, as they are written.
 -- Assumes nothing.
+use Rattle.std.specs.Prelude.{None, Option, Some}
 use mathlib.Core.Path.{◌≡◌, refl, sym, ap, ◌∙◌}
-use mathlib.Core.Option.{Option, none, some}
 use mathlib.Core.List.{List, [], ◌∷◌, map}
 use Prim.Native.Nat.{ℕ, ◌+◌, ◌*◌, ◌≤◌}
 use native.Mathlib.Omega.{arith}
 use lib.ListN.{length, take, length-map}
 use lib.Seq.{length-take-le}
-use Rattle.wire.specs.declared.order.Ordering.{Ordering}
-use Rattle.wire.specs.declared.order.Ordering.TheVariants.{Less, Equal, Greater}
+use Rattle.std.specs.declared.cmp.Ordering.{Ordering}
+use Rattle.std.specs.declared.cmp.Ordering.TheVariants.{Less, Equal, Greater}
 use Rattle.wire.specs.Order.{Order}
 use Rattle.wire.specs.Orders.{by_bytes}
 use Rattle.wire.specs.Rows.{choose, lookup, place, insert, remove, set}
@@ -58,8 +58,8 @@ module _ {K : Type 0} (O : Order K) {A : Type 0} where
 
   set-few : (k : K) (o : Option A) (l : List (K × A)) → length (set O k o l) ≤ 1 + length l
   unfolding set
-  set-few k none l = omega (arith, remove-few k l)
-  set-few k (some a) l = insert-few k a l
+  set-few k None l = omega (arith, remove-few k l)
+  set-few k (Some a) l = insert-few k a l
 
   module _ {C : Type 0} (g : K → C → Option A → Option A) where
     laid-few : (s : List (K × C)) (m : List (K × A)) → length (laid O g s m) ≤ length s + length m
@@ -95,19 +95,19 @@ rows-valued : (prev : Option Text) (es : List (Text × (ℕ × Given)))
     → rows_given N.Attributes es ≡ chain_write (row by_bytes name value) (onto by_bytes name value) prev (map (map_row by_bytes valued) es)
 unfolding rows_given
 rows-valued prev [] = refl
-rows-valued prev (e ∷ es) = rw (rows-valued (some e.0) es)
+rows-valued prev (e ∷ es) = rw (rows-valued (Some e.0) es)
 
 rows-inoded : (prev : Option Text) (es : List (Text × (ℕ × Given)))
     → rows_given N.Entries es ≡ chain_write (row by_bytes name inode) (onto by_bytes name inode) prev (map (map_row by_bytes inoded) es)
 unfolding rows_given
 rows-inoded prev [] = refl
-rows-inoded prev (e ∷ es) = rw (rows-inoded (some e.0) es)
+rows-inoded prev (e ∷ es) = rw (rows-inoded (Some e.0) es)
 
 attributes-written : (es : List (Text × (ℕ × Given))) (m : Attributes) → map (map_row by_bytes valued) es ≡ m.rows → list_given N.Attributes es ≡ attributes.write m
-attributes-written es m h = rw (rows-valued none es, ← (length-map es (map_row by_bytes valued)), h)
+attributes-written es m h = rw (rows-valued None es, ← (length-map es (map_row by_bytes valued)), h)
 
 entries-written : (es : List (Text × (ℕ × Given))) (m : Entries) → map (map_row by_bytes inoded) es ≡ m.rows → list_given N.Entries es ≡ entries.write m
-entries-written es m h = rw (rows-inoded none es, ← (length-map es (map_row by_bytes inoded)), h)
+entries-written es m h = rw (rows-inoded None es, ← (length-map es (map_row by_bytes inoded)), h)
 
 -- ---- the lists of a stack
 

@@ -1,7 +1,7 @@
 -- The node of a stack with its records folded in. Document 01: "Tombstone: node gone. Delta on nothing: a node of initial values (parent 1,
 -- empty target), then applied. Delta of the node's kind: applied, entries sorted, no empty attribute map. Other kind: nothing."
-use Rattle.std.specs.Prelude.{◌≡◌, List, [], cond, ℕ, ◌+◌}
-use Rattle.std.proofs.Math.Option.{Option, none, some}
+use Rattle.nodes.specs.declared.node.Node.{Node}
+use Rattle.std.specs.Prelude.{◌≡◌, List, [], cond, ℕ, ◌+◌, None, Option, Some}
 use Rattle.wire.specs.Orders.{by_bytes}
 use Rattle.wire.specs.Maps.{Map, empty}
 use Rattle.wire.specs.Number.{number_bytes}
@@ -30,14 +30,11 @@ use Rattle.nodes.specs.declared.node.NodeKind.TheVariants as K
 use Rattle.attrs.specs.Meant.{kind_meant}
 use Rattle.attrs.specs.declared.node.FileType.{FileType}
 use Rattle.stack.specs.Stacks.{Stacked, records_in, node_in, BaseIs}
-use Rattle.stack.specs.declared.stack.OptionNode.{OptionNode}
 use Rattle.apply.specs.Folded.{body_with, node_with, on_attributes, on_entries}
 use Rattle.fold.specs.Lists.{attributes_of, entries_of}
 use Rattle.fold.specs.declared.folded.Origin.{Origin}
 use Rattle.fold.specs.declared.folded.Origin.TheVariants as From
 use Rattle.fold.specs.declared.folded.Folded.{Folded}
-use Rattle.fold.specs.declared.folded.OptionFolded.{OptionFolded}
-use Rattle.fold.specs.declared.folded.OptionFolded.TheVariants as O
 
 -- ---- where a list comes from
 
@@ -74,26 +71,26 @@ pub record Shows (img : List ℕ) (f : Folded) (m : M.Node) : Type 0 where
   pub attributes_come : Comes img U.Value f.attributes attributes
   pub entries_come : Comes img U.Inode f.entries entries
 
-abbrev pub ShowsIf : List ℕ → OptionFolded → Option M.Node → Type 0
-ShowsIf img O.None none = Unit {0}
-ShowsIf img O.None (some m) = ⊥
-ShowsIf img (O.Some f) none = ⊥
-ShowsIf img (O.Some f) (some m) = Shows img f m
+abbrev pub ShowsIf : List ℕ → Option Folded → Option M.Node → Type 0
+ShowsIf img None None = Unit {0}
+ShowsIf img None (Some m) = ⊥
+ShowsIf img (Some f) None = ⊥
+ShowsIf img (Some f) (Some m) = Shows img f m
 
 -- the base node
-pub record FoldsBase (o : OptionNode) (r : OptionFolded) : Type 0 where
+pub record FoldsBase (o : Option Node) (r : Option Folded) : Type 0 where
   pub makes : (img : List ℕ) (p : Option ℕ) → BaseIs img p o → ShowsIf img r (unplaced_node (node_at img p))
 
 -- "Delta of the node's kind: applied. Other kind: nothing."
 pub record FoldsDelta (d : NodeDelta) (f r : Folded) : Type 0 where
   pub makes : (img : List ℕ) (m : M.Node) → Shows img f m → Shows img r (cond (same_kind (changed_kind (change_meant img d)) (kind_of m.body)) (applied (delta_meant img d) m) m)
 
-pub record FoldsRecord (e : EntryDelta) (o r : OptionFolded) : Type 0 where
+pub record FoldsRecord (e : EntryDelta) (o r : Option Folded) : Type 0 where
   pub makes : (img : List ℕ) (m : Option M.Node) → ShowsIf img o m → ShowsIf img r (fold_record usual (entry_meant img e) m)
 
 -- "Delta on nothing: a node of initial values, then applied."
-abbrev pub StartsNode : NodeDelta → OptionFolded → Type 0
-StartsNode d r = FoldsRecord (E.Node d) O.None r
+abbrev pub StartsNode : NodeDelta → Option Folded → Type 0
+StartsNode d r = FoldsRecord (E.Node d) None r
 
 -- ---- the node of a stack
 
@@ -103,7 +100,7 @@ folded_in img s = folded usual (unplaced (records_in img s)) (unplaced_node (nod
 -- the stack has this node
 pub record FoldsTo (img : List ℕ) (s : InodeLayerStack) (f : Folded) : Type 0 where
   pub stacked : Stacked img s
-  pub shows : ShowsIf img (O.Some f) (folded_in img s)
+  pub shows : ShowsIf img (Some f) (folded_in img s)
 
 -- ---- what is written
 
@@ -122,8 +119,8 @@ pub record PutsBody (img : List ℕ) (s : InodeLayerStack) (k : NodeKind) (o : O
   pub puts : (es : Entries) → (kind_of (body_with img k es) ≡ directory → origin_bytes img o (entries.write (entries_of img s)) ≡ entries.write es) → Put old at (body_written img k es) r new
 
 abbrev pub bytes_if : Option M.Node → List ℕ
-bytes_if none = []
-bytes_if (some m) = node.write m
+bytes_if None = []
+bytes_if (Some m) = node.write m
 
 -- a node with lists whose bytes are these; the stack's attributes are of its own kind
 pub record Merged (img : List ℕ) (s : InodeLayerStack) (f : Folded) (old : List ℕ) (at r : ℕ) (new : List ℕ) : Type 0 where

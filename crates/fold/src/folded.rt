@@ -12,10 +12,9 @@ use attrs::node::{FileType, kind_type};
 use deltas::delta::{EntryDelta, NodeDelta, attr_delta};
 use gather::gather::of_type;
 use nodes::node::{Node, NodeKind};
-use nodes::option::OptionPart;
 use nodes::part::Part;
 use records::write_node::{kind_number, put_body};
-use stack::stack::{OptionNode, base_node, record_at};
+use stack::stack::{base_node, record_at};
 use survey::batch::InodeLayerStack;
 use wire::number::put_number;
 use wire::put::put_part;
@@ -40,12 +39,6 @@ pub struct Folded {
     pub entries: Origin,
 }
 
-#[derive(Clone, Copy)]
-pub enum OptionFolded {
-    Some(Folded),
-    None,
-}
-
 // Attribute changes make the attributes; without any they stay.
 fn attributes_after(delta: NodeDelta, origin: Origin) -> Origin
     ensures { AttributesAfter delta origin result }
@@ -53,8 +46,8 @@ fn attributes_after(delta: NodeDelta, origin: Origin) -> Origin
     let attr = attr_delta(delta);
     let xattrs = attr.xattrs;
     match xattrs {
-        OptionPart::Some(_) => Origin::Merged,
-        OptionPart::None => origin,
+        Some(_) => Origin::Merged,
+        None => origin,
     }
 }
 
@@ -87,12 +80,12 @@ fn fold_delta(delta: NodeDelta, below: Folded) -> Folded
 }
 
 // A delta on nothing starts a node of initial values without lists, and is applied.
-fn start_node(delta: NodeDelta) -> OptionFolded
+fn start_node(delta: NodeDelta) -> Option<Folded>
     ensures { StartsNode delta result }
 {
     let first = initial_node(delta);
     let nothing = Origin::Nothing;
-    OptionFolded::Some(Folded {
+    Some(Folded {
         node: apply_to_node(delta, first),
         attributes: attributes_after(delta, nothing),
         entries: entries_after(delta, nothing),
@@ -100,15 +93,15 @@ fn start_node(delta: NodeDelta) -> OptionFolded
 }
 
 // A tombstone clears.
-fn fold_record(entry: EntryDelta, below: OptionFolded) -> OptionFolded
+fn fold_record(entry: EntryDelta, below: Option<Folded>) -> Option<Folded>
     ensures { FoldsRecord entry below result }
 {
     match entry {
         EntryDelta::Node(delta) => match below {
-            OptionFolded::Some(node) => OptionFolded::Some(fold_delta(delta, node)),
-            OptionFolded::None => start_node(delta),
+            Some(node) => Some(fold_delta(delta, node)),
+            None => start_node(delta),
         },
-        EntryDelta::Tombstone => OptionFolded::None,
+        EntryDelta::Tombstone => None,
     }
 }
 
@@ -123,26 +116,26 @@ fn entries_in(kind: NodeKind) -> Origin
 }
 
 // The base node, if there is one, with its lists as they stand.
-fn fold_base(base: OptionNode) -> OptionFolded
+fn fold_base(base: Option<Node>) -> Option<Folded>
     ensures { FoldsBase base result }
 {
     match base {
-        OptionNode::Some(node) => {
+        Some(node) => {
             let meta = node.meta;
             let xattrs = meta.xattrs;
             let kind = node.kind;
-            OptionFolded::Some(Folded {
+            Some(Folded {
                 node,
                 attributes: Origin::Base(xattrs),
                 entries: entries_in(kind),
             })
         }
-        OptionNode::None => OptionFolded::None,
+        None => None,
     }
 }
 
 // From the bottom: the base node, and what each record makes of it.
-pub fn folded_node(img: &[u8], stack: InodeLayerStack) -> OptionFolded
+pub fn folded_node(img: &[u8], stack: InodeLayerStack) -> Option<Folded>
     requires { Stacked img.now stack }
     ensures { ShowsIf img.now result (folded_in img.now stack) }
 {

@@ -1,7 +1,7 @@
 -- The lists of a stack's records and node are its sources.
 -- Assumes nothing.
+use Rattle.std.specs.Prelude.{None, Option, Some}
 use mathlib.Core.Path.{◌≡◌, refl, sym, ap, ◌∙◌}
-use mathlib.Core.Option.{Option, none, some}
 use mathlib.Core.List.{List, [], ◌++◌, append_assoc, append-nil}
 use Prim.Native.Nat.{ℕ, ◌+◌, ◌-◌, ◌*◌, ◌≤◌, ◌<◌}
 use native.Mathlib.Omega.{arith}
@@ -14,7 +14,6 @@ use Rattle.image.specs.Meaning.{changed_kind}
 use Rattle.image.specs.declared.name.Under.{Under}
 use Rattle.image.specs.declared.name.Under.TheVariants as U
 use Rattle.survey.specs.declared.batch.InodeLayerStack.{InodeLayerStack}
-use Rattle.passes.specs.Held.{place_of}
 use Rattle.image.specs.NodeLayout.{node}
 use Rattle.image.specs.RecordLayout.{fields, layer_record}
 use Rattle.nodes.specs.declared.part.Part.{Part}
@@ -25,9 +24,6 @@ use Rattle.deltas.specs.declared.delta.EntryDelta.TheVariants as E
 use Rattle.nodes.specs.declared.node.Node.{Node}
 use Rattle.nodes.specs.declared.node.NodeKind.{NodeKind}
 use Rattle.nodes.specs.declared.node.NodeKind.TheVariants as K
-use Rattle.nodes.specs.declared.option.OptionPart.{OptionPart}
-use Rattle.nodes.specs.declared.option.OptionPart.TheVariants as P
-use Rattle.nodes.specs.Options.{number_of}
 use Rattle.nodes.specs.Listed.{by_name, list_at, list_of, Listed, ListedIf}
 use Rattle.nodes.specs.Attrs.{fields_meant}
 use Rattle.deltas.specs.Deltas.{attr_of, change_meant, delta_meant, ChangeListed}
@@ -43,8 +39,6 @@ use Rattle.gather.specs.Lists.{change_lists, alter_lists, delta_lists, record_li
 use Rattle.stack.specs.Stacks.{Stacked, records_under, records_in, node_in, RecordIs, NodeIs, BaseIs}
 use Rattle.gather.specs.declared.gather.Lists.{Lists}
 use Rattle.gather.specs.declared.gather.Lists.TheVariants as L
-use Rattle.stack.specs.declared.stack.OptionNode.{OptionNode}
-use Rattle.stack.specs.declared.stack.OptionNode.TheVariants as O
 use Rattle.merge.specs.declared.merge.Sources.{Sources}
 use Rattle.merge.specs.declared.merge.AtMostTwo.{AtMostTwo}
 use Rattle.merge.proofs.Merging.{many-rows}
@@ -87,9 +81,9 @@ module _ (img : List ℕ) (p : ℕ) where
       let added = list_at img U.Inode d.added in
       let w = (by_name U.Inode).write added in
       let v = (by_name U.Nothing).write (list_at img U.Nothing d.removed) in
-      let a = added-at img p (fields_meant img d.attr_delta) (number_of d.parent) added (list_at img U.Nothing d.removed) (drop end img) r in
+      let a = added-at img p (fields_meant img d.attr_delta) d.parent added (list_at img U.Nothing d.removed) (drop end img) r in
       let b : drop d.added.start img ≡ w ++ (v ++ drop end img) = list-bytes img U.Inode l.0 ∙ ap (λ (t : List ℕ). w ++ t) (list-bytes img U.Nothing l.1) in
-      let x = same_place img d.added.start (added_at p (fields_meant img d.attr_delta) (number_of d.parent)) w (v ++ drop end img) (list-long img U.Inode l.0) b a in
+      let x = same_place img d.added.start (added_at p (fields_meant img d.attr_delta) d.parent) w (v ++ drop end img) (list-long img U.Inode l.0) b a in
       let y : d.removed.start ≡ d.added.start + length w =
       omega (arith, ap length (list-bytes img U.Inode l.0), length-append w (drop d.removed.start img), length-drop d.added.start img, length-drop d.removed.start img, l.0.inside, list-long img U.Inode l.0) in
       rw (list-source img U.Inode l.0 x, list-source img U.Nothing l.1 (y ∙ ap (λ (n : ℕ). n + length w) x))
@@ -100,10 +94,10 @@ module _ (img : List ℕ) (p : ℕ) where
   change-lists (D.BlockDevice d) end r l = refl
   change-lists (D.Socket d) end r l = refl
 
-  alter-lists : (o : OptionPart) (f : M.Fields) → ListedIf img U.Change o (p + 1 + length (fields.write f)) → alter_lists img o ≡ pile_rows (alter_pile p f (list_of img U.Change o))
+  alter-lists : (o : Option Part) (f : M.Fields) → ListedIf img U.Change o (p + 1 + length (fields.write f)) → alter_lists img o ≡ pile_rows (alter_pile p f (list_of img U.Change o))
   unfolding rows_of
-  alter-lists (P.Some x) f l = rw (list-source img U.Change l (list-start img U.Change l))
-  alter-lists P.None f l = refl
+  alter-lists (Some x) f l = rw (list-source img U.Change l (list-start img U.Change l))
+  alter-lists None f l = refl
 
   delta-lists : (l : Lists) (n : NodeDelta) → RecordIs img p (E.Node n) → delta_lists img l n ≡ pile_rows (delta_pile l p (delta_meant img n))
   unfolding rows_of
@@ -128,29 +122,29 @@ module _ (img : List ℕ) (p : ℕ) where
   entry-lists (K.BlockDevice rdev) m end r l = refl
   entry-lists K.Socket m end r l = refl
 
-  node_lists_lem : (l : Lists) (n : Node) → NodeIs img p n → node_lists img l n ≡ pile_rows (node_pile l (some (record { place = p; held = node_meant img n })))
+  node_lists_lem : (l : Lists) (n : Node) → NodeIs img p n → node_lists img l n ≡ pile_rows (node_pile l (Some (record { place = p; held = node_meant img n })))
   unfolding rows_of
   node_lists_lem L.Entries n g = entry-lists n.kind (meta_meant img n.meta) g.end g.reads.reads.same g.reads.entries
   node_lists_lem L.Attributes n g = let a = g.reads.attributes p refl in rw (list-source img U.Value a (list-start img U.Value a))
   node_lists_lem (L.AttributesOf t) n g = let a = g.reads.attributes p refl in rw (list-source img U.Value a (list-start img U.Value a))
 
-base-lists : (img : List ℕ) (l : Lists) (o : Option ℕ) (b : OptionNode) → BaseIs img o b → base_lists img l b ≡ pile_rows (node_pile l (node_at img o))
+base-lists : (img : List ℕ) (l : Lists) (o : Option ℕ) (b : Option Node) → BaseIs img o b → base_lists img l b ≡ pile_rows (node_pile l (node_at img o))
 unfolding rows_of
-base-lists img l none O.None g = go l
+base-lists img l None None g = go l
   where
-    go : (l : Lists) → [] ≡ pile_rows (node_pile l none)
+    go : (l : Lists) → [] ≡ pile_rows (node_pile l None)
     go L.Entries = refl
     go L.Attributes = refl
     go (L.AttributesOf t) = refl
-base-lists img l none (O.Some n) g = absurd g
-base-lists img l (some p) O.None g = absurd g
-base-lists img l (some p) (O.Some n) g = rw g.reads.reads.same (node_lists_lem img p l n g)
+base-lists img l None (Some n) g = absurd g
+base-lists img l (Some p) None g = absurd g
+base-lists img l (Some p) (Some n) g = rw g.reads.reads.same (node_lists_lem img p l n g)
 
 -- ---- the walk from the top
 
-alter-few : (img : List ℕ) (o : OptionPart) → length (alter_lists img o) ≤ 2
-alter-few img (P.Some p) = omega arith
-alter-few img P.None = omega arith
+alter-few : (img : List ℕ) (o : Option Part) → length (alter_lists img o) ≤ 2
+alter-few img (Some p) = omega arith
+alter-few img None = omega arith
 
 lists-few : (img : List ℕ) (l : Lists) (n : NodeDelta) → length (delta_lists img l n) ≤ 2
 lists-few img L.Entries (D.Directory d) = omega arith
@@ -167,9 +161,9 @@ lists-few img (L.AttributesOf t) n = go (same_kind (changed_kind (change_meant i
     go true = alter-few img (attr_of n).xattrs
     go false = omega arith
 
-base-few : (img : List ℕ) (l : Lists) (o : OptionNode) → length (base_lists img l o) ≤ 1
-base-few img l O.None = omega arith
-base-few img L.Entries (O.Some n) = go n.kind
+base-few : (img : List ℕ) (l : Lists) (o : Option Node) → length (base_lists img l o) ≤ 1
+base-few img l None = omega arith
+base-few img L.Entries (Some n) = go n.kind
   where
     go : (k : NodeKind) → length (entry_lists img k) ≤ 1
     go (K.Directory parent es) = omega arith
@@ -179,10 +173,10 @@ base-few img L.Entries (O.Some n) = go n.kind
     go (K.CharDevice rdev) = omega arith
     go (K.BlockDevice rdev) = omega arith
     go K.Socket = omega arith
-base-few img L.Attributes (O.Some n) = omega arith
-base-few img (L.AttributesOf t) (O.Some n) = omega arith
+base-few img L.Attributes (Some n) = omega arith
+base-few img (L.AttributesOf t) (Some n) = omega arith
 
-pub base-room : (img : List ℕ) (l : Lists) (o : OptionNode) (f : AtMostTwo) → rows_in img f ≡ base_lists img l o → how_many f ≤ 1
+pub base-room : (img : List ℕ) (l : Lists) (o : Option Node) (f : AtMostTwo) → rows_in img f ≡ base_lists img l o → how_many f ≤ 1
 base-room img l o f e = omega (arith, many-rows img f, ap length e, base-few img l o)
 
 module _ (img : List ℕ) (s : InodeLayerStack) (l : Lists) where
@@ -232,12 +226,12 @@ module _ {img : List ℕ} {s : InodeLayerStack} {l : Lists} {all : Sources} wher
       → {r : Sources} → Pushes img all (record_lists img l e) r → Gathering img s l r (i - 1)
   gathering-more h {i} k g {e} r t p = more-at h (i - 1) (omega (arith, g.low)) (above k g) e r t p
 
-  pub gathering-all : {i : ℕ} → i ≤ 0 → Gathering img s l all i → (o : OptionNode) → BaseIs img (place_of s.base) o → {r : Sources} → Pushes img all (base_lists img l o) r → Gathers img s l r
+  pub gathering-all : {i : ℕ} → i ≤ 0 → Gathering img s l all i → (o : Option Node) → BaseIs img s.base o → {r : Sources} → Pushes img all (base_lists img l o) r → Gathers img s l r
   unfolding records_on
   gathering-all {i} h g o b p =
       let z : i ≡ 0 = omega arith in
       let e : sources_of img all ++ pile_under img s l 0 ≡ pile_under img s l s.count = rw z at g.are in
-      gathered p.whole (p.are ∙ rw (base-lists img l (place_of s.base) o b) e) (rw p.are (every_append Short (sources_of img all) (base_lists img l o) g.short (base_short img l o)))
+      gathered p.whole (p.are ∙ rw (base-lists img l s.base o b) e) (rw p.are (every_append Short (sources_of img all) (base_lists img l o) g.short (base_short img l o)))
 
 -- ---- what is gathered can be merged
 

@@ -1,5 +1,7 @@
 -- No list of a stack has more rows than a count can say.
 -- Assumes nothing.
+use Rattle.nodes.specs.declared.part.Part.{Part}
+use Rattle.std.specs.Prelude.{None, Option, Some}
 use mathlib.Core.Path.{◌≡◌, refl}
 use mathlib.Core.Bool.{Bool, true, false, cond}
 use mathlib.Core.List.{List, [], ◌∷◌, ◌++◌}
@@ -22,12 +24,8 @@ use Rattle.deltas.specs.declared.delta.NodeDelta.TheVariants as D
 use Rattle.nodes.specs.declared.node.Node.{Node}
 use Rattle.nodes.specs.declared.node.NodeKind.{NodeKind}
 use Rattle.nodes.specs.declared.node.NodeKind.TheVariants as K
-use Rattle.nodes.specs.declared.option.OptionPart.{OptionPart}
-use Rattle.nodes.specs.declared.option.OptionPart.TheVariants as P
 use Rattle.deltas.specs.Deltas.{attr_of, change_meant}
 use Rattle.merge.specs.Sources.{Decided, decided, rows_if, rows_from, list_rows}
-use Rattle.stack.specs.declared.stack.OptionNode.{OptionNode}
-use Rattle.stack.specs.declared.stack.OptionNode.TheVariants as O
 use Rattle.gather.specs.Lists.{change_lists, alter_lists, delta_lists, entry_lists, node_lists, base_lists}
 use Rattle.gather.specs.Gathers.{Short}
 use Rattle.gather.specs.declared.gather.Lists.{Lists}
@@ -68,9 +66,9 @@ module _ (img : List ℕ) where
   change-short (D.BlockDevice d) = tt
   change-short (D.Socket d) = tt
 
-  alter-short : (o : OptionPart) → Every Short (alter_lists img o)
-  alter-short (P.Some p) = (list-few img U.Change p.start, tt)
-  alter-short P.None = tt
+  alter-short : (o : Option Part) → Every Short (alter_lists img o)
+  alter-short (Some p) = (list-few img U.Change p.start, tt)
+  alter-short None = tt
 
   pub delta-short : (l : Lists) (n : NodeDelta) → Every Short (delta_lists img l n)
   delta-short L.Entries n = change-short n
@@ -95,6 +93,6 @@ module _ (img : List ℕ) where
   node-short L.Attributes n = (list-few img U.Value n.meta.xattrs.start, tt)
   node-short (L.AttributesOf t) n = (list-few img U.Value n.meta.xattrs.start, tt)
 
-  pub base_short : (l : Lists) (o : OptionNode) → Every Short (base_lists img l o)
-  base_short l (O.Some n) = node-short l n
-  base_short l O.None = tt
+  pub base_short : (l : Lists) (o : Option Node) → Every Short (base_lists img l o)
+  base_short l (Some n) = node-short l n
+  base_short l None = tt

@@ -1,7 +1,6 @@
 -- The sources of a placed stack, the topmost first. Document 01, listing: "From the bottom: tombstone clears, a directory delta removes then
 -- adds, other kinds do nothing"; extended attributes: "the first delta naming it decides (set or removed), then the base".
-use Rattle.std.specs.Prelude.{◌≡◌, cond, List, [], ◌∷◌, ◌++◌, ℕ, ◌+◌, ◌≤◌, length}
-use Rattle.std.proofs.Math.Option.{Option, none, some}
+use Rattle.std.specs.Prelude.{◌≡◌, cond, List, [], ◌∷◌, ◌++◌, ℕ, ◌+◌, ◌≤◌, length, None, Option, Some}
 use Rattle.image.specs.Meaning.{Entries, Body, Meta, Node, Changes, Fields, Change, Delta, Record, directory, file, symlink, special, tombstone, delta, changed_kind}
 use Rattle.image.specs.FieldLayout.{entries}
 use Rattle.image.specs.declared.name.Under.TheVariants as U
@@ -32,10 +31,10 @@ abbrev pub value_pile : ℕ → Meta → List Deciding
 value_pile p m = source_of U.Value (attributes_at p m) m.attributes ∷ []
 
 abbrev pub node_pile : Lists → Option (Placed Node) → List Deciding
-node_pile l none = []
-node_pile L.Entries (some n) = body_pile n.place n.held.meta n.held.body
-node_pile L.Attributes (some n) = value_pile n.place n.held.meta
-node_pile (L.AttributesOf t) (some n) = value_pile n.place n.held.meta
+node_pile l None = []
+node_pile L.Entries (Some n) = body_pile n.place n.held.meta n.held.body
+node_pile L.Attributes (Some n) = value_pile n.place n.held.meta
+node_pile (L.AttributesOf t) (Some n) = value_pile n.place n.held.meta
 
 -- "a directory delta removes then adds, other kinds do nothing"
 abbrev pub change_pile : ℕ → Fields → Change → List Deciding
@@ -45,8 +44,8 @@ change_pile p f (symlink t) = []
 change_pile p f (special s device) = []
 
 abbrev pub alter_pile : ℕ → Fields → Option Changes → List Deciding
-alter_pile p f none = []
-alter_pile p f (some cs) = source_of U.Change (changes_at p f cs) cs ∷ []
+alter_pile p f None = []
+alter_pile p f (Some cs) = source_of U.Change (changes_at p f cs) cs ∷ []
 
 abbrev pub delta_pile : Lists → ℕ → Delta → List Deciding
 delta_pile L.Entries p d = change_pile p d.fields d.change

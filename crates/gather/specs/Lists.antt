@@ -1,5 +1,6 @@
 -- The lists that a record and a node have by value, as sources.
-use Rattle.std.specs.Prelude.{Bool, true, false, cond, List, [], ◌∷◌, ℕ}
+use Rattle.nodes.specs.declared.part.Part.{Part}
+use Rattle.std.specs.Prelude.{Bool, true, false, cond, List, [], ◌∷◌, ℕ, None, Option, Some}
 use Rattle.image.specs.Meaning.{Kind, changed_kind}
 use Rattle.image.specs.declared.name.Under.TheVariants as U
 use Rattle.deltas.specs.declared.delta.NodeDelta.{NodeDelta}
@@ -9,14 +10,11 @@ use Rattle.deltas.specs.declared.delta.EntryDelta.TheVariants as E
 use Rattle.nodes.specs.declared.node.Node.{Node}
 use Rattle.nodes.specs.declared.node.NodeKind.{NodeKind}
 use Rattle.nodes.specs.declared.node.NodeKind.TheVariants as K
-use Rattle.nodes.specs.declared.option.OptionPart.{OptionPart}
 use Rattle.deltas.specs.Deltas.{attr_of, change_meant}
 use Rattle.rules.specs.Fold.{same_kind}
 use Rattle.attrs.specs.Meant.{kind_meant}
 use Rattle.merge.specs.Sources.{Decided, list_rows}
 use Rattle.merge.specs.Merges.{lists_if}
-use Rattle.stack.specs.declared.stack.OptionNode.{OptionNode}
-use Rattle.stack.specs.declared.stack.OptionNode.TheVariants as O
 use Rattle.gather.specs.declared.gather.Lists.{Lists}
 use Rattle.gather.specs.declared.gather.Lists.TheVariants as L
 
@@ -37,7 +35,7 @@ module _ (img : List ℕ) where
   change_lists (D.Socket d) = []
 
   -- "the first delta naming it decides (set or removed)"
-  abbrev pub alter_lists : OptionPart → List (List Decided)
+  abbrev pub alter_lists : Option Part → List (List Decided)
   alter_lists o = lists_if img U.Change o
 
   -- fold: "Other kind: nothing."
@@ -68,6 +66,6 @@ module _ (img : List ℕ) where
   node_lists L.Attributes n = list_rows img U.Value n.meta.xattrs.start ∷ []
   node_lists (L.AttributesOf t) n = list_rows img U.Value n.meta.xattrs.start ∷ []
 
-  abbrev pub base_lists : Lists → OptionNode → List (List Decided)
-  base_lists l (O.Some n) = node_lists l n
-  base_lists l O.None = []
+  abbrev pub base_lists : Lists → Option Node → List (List Decided)
+  base_lists l (Some n) = node_lists l n
+  base_lists l None = []

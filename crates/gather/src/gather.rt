@@ -16,7 +16,7 @@ use image::name::Under;
 use merge::merge::{AtMostTwo, Sources, list_if, push_lists};
 use merge::source::source_at;
 use nodes::node::{Node, NodeKind};
-use stack::stack::{OptionNode, base_node, record_at};
+use stack::stack::{base_node, record_at};
 use survey::batch::InodeLayerStack;
 
 // Which lists: the entries of a directory, the attributes, or the attributes without the changes of deltas of another type.
@@ -111,12 +111,12 @@ fn node_lists(img: &[u8], node: Node, lists: Lists) -> AtMostTwo
     }
 }
 
-fn base_lists(img: &[u8], base: OptionNode, lists: Lists) -> AtMostTwo
+fn base_lists(img: &[u8], base: Option<Node>, lists: Lists) -> AtMostTwo
     ensures { rows_in img.now result ≡ base_lists img.now lists base }
 {
     match base {
-        OptionNode::Some(node) => node_lists(img, node, lists),
-        OptionNode::None => AtMostTwo::None,
+        Some(node) => node_lists(img, node, lists),
+        None => AtMostTwo::None,
     }
 }
 

@@ -1,9 +1,9 @@
 -- A name that is after the one before it.
 -- Assumes nothing.
+use Rattle.std.specs.Prelude.{Option, Some}
 use mathlib.Core.Path.{◌≡◌, refl}
 use mathlib.Core.Bool.{Bool, true, false}
 use mathlib.Core.List.{List, [], ◌∷◌}
-use mathlib.Core.Option.{Option, some}
 use Prim.Native.Nat.{ℕ, zero, suc, ◌+◌, ◌≤◌}
 use native.Mathlib.Omega.{arith}
 use lib.ListN.{length, drop, length-drop}
@@ -12,8 +12,8 @@ use Rattle.wire.specs.declared.cursor.Fault.{Fault}
 use Rattle.wire.specs.declared.cursor.Fault.TheVariants.{Malformed}
 use Rattle.wire.specs.declared.cursor.Cursor.{Cursor}
 use Rattle.wire.specs.declared.cursor.Cursor.TheVariants.{At, Stop}
-use Rattle.wire.specs.declared.order.Ordering.{Ordering}
-use Rattle.wire.specs.declared.order.Ordering.TheVariants.{Less, Equal, Greater}
+use Rattle.std.specs.declared.cmp.Ordering.{Ordering}
+use Rattle.std.specs.declared.cmp.Ordering.TheVariants.{Less, Equal, Greater}
 use Rattle.wire.specs.declared.text.TextRead.{TextRead}
 use Rattle.wire.specs.Parse.{Parsed, got, never-got}
 use Rattle.wire.specs.Combinators.{only}
@@ -80,15 +80,15 @@ module _ {img : List ℕ} {at next : Cursor} {s n : ℕ} (h : AnswersPart img (t
 
 -- a name that was passed with what stands under it is the name before the next
 pub name-passed : {A : Type 0} {img : List ℕ} {here s n q : ℕ} {mid : Cursor} (prev : Option (List ℕ)) (value : List ℕ → Parsed A)
-    → AnswersPart img (only (after by_bytes prev) name).read (At here) s n mid → Ends img value mid (At q) → name_before img s n ≡ some (part img s n)
+    → AnswersPart img (only (after by_bytes prev) name).read (At here) s n mid → Ends img value mid (At q) → name_before img s n ≡ Some (part img s n)
 name-passed {A} {img} {here} {s} {n} {q} {mid} prev value h g = go mid h.reads.same g.same
   where
-    before : (n : ℕ) → 1 ≤ n → name_before img s n ≡ some (part img s n)
+    before : (n : ℕ) → 1 ≤ n → name_before img s n ≡ Some (part img s n)
     before zero k = absurd (omega arith)
     before (suc n) k = refl
 
     go : (m : Cursor) → (only (after by_bytes prev) name).read (drop here img) ≡ give img (part img s n) m → passed (run img value m) ≡ got tt (drop q img)
-        → name_before img s n ≡ some (part img s n)
+        → name_before img s n ≡ Some (part img s n)
     go (At m) e d =
         let f = ((only-one (after by_bytes prev) name name-one).forth (drop here img) (part img s n) (drop m img) e).1 in
         before n (omega (arith, f.0.0, part_length img s n h.inside))

@@ -1,9 +1,9 @@
 -- How passing over constructs is put together. A construct that stops stays stopped, for the same fault.
 -- Assumes nothing.
+use Rattle.std.specs.Prelude.{None, Option, Some}
 use mathlib.Core.Path.{◌≡◌, refl, sym, ap, ◌∙◌}
 use mathlib.Core.Bool.{Bool, true, false}
 use mathlib.Core.List.{List, ◌∷◌}
-use mathlib.Core.Option.{Option, none, some}
 use Prim.Native.Nat.{ℕ, zero, suc, ◌-◌, ◌≤◌, ◌<◌}
 use native.Mathlib.Omega.{arith}
 use lib.Dec.{leb}
@@ -123,7 +123,7 @@ module _ {A : Type 0} (p : List ℕ → Parsed A) where
 
   pub ends-present : {img : List ℕ} {bit : ℕ} {at next : Cursor} → (bit ≡ 0 → ⊥) → bit ≤ 1 → Ends img p at next → Ends img (opt-read p bit) at next
   unfolding opt-read
-  ends-present {img} {bit} n l h = let e : bit ≡ 1 = omega arith in rw e (ends-made p some h)
+  ends-present {img} {bit} n l h = let e : bit ≡ 1 = omega arith in rw e (ends-made p Some h)
 
 -- ---- a list whose keys rise, one row at a time
 
@@ -134,21 +134,21 @@ module _ {K A : Type 0} (O : Order K) (key : Codec K) (value : Codec A) where
   abbrev key_after : Option K → List ℕ → Parsed K
   key_after prev = (only (after O prev) key).read
 
-  later : (prev : Option K) (e : K × A) (o : Parsed (List (K × A))) → last_of prev (bind o (λ l r. got (e ∷ l) r)) ≡ last_of (some e.0) o
+  later : (prev : Option K) (e : K × A) (o : Parsed (List (K × A))) → last_of prev (bind o (λ l r. got (e ∷ l) r)) ≡ last_of (Some e.0) o
   later prev e (fault f) = refl
   later prev e (got l r) = refl
 
   rows_step : (n : ℕ) (prev : Option K) (s r : List ℕ) {k : K} {v : A} → 0 < n → (row O key value prev).read s ≡ got (k, v) r
-      → last_of prev (rows_from O key value n prev s) ≡ last_of (some k) (rows_from O key value (n - 1) (some k) r)
+      → last_of prev (rows_from O key value n prev s) ≡ last_of (Some k) (rows_from O key value (n - 1) (Some k) r)
   rows_step zero prev s r h e = absurd (omega arith)
-  rows_step (suc n) prev s r {k} {v} h e = rw (e, one_less n) (later prev (k, v) (rows_from O key value n (some k) r))
+  rows_step (suc n) prev s r {k} {v} h e = rw (e, one_less n) (later prev (k, v) (rows_from O key value n (Some k) r))
 
   module _ {img : List ℕ} {here n : ℕ} (prev : Option K) {k : K} {mid : Cursor} (h : 0 < n) (a : Reads img (key_after prev) (At here) k mid) where
-    rows_on : {q : ℕ} → Ends img value.read mid (At q) → last_of prev (rows_from O key value n prev (drop here img)) ≡ last_of (some k) (rows_from O key value (n - 1) (some k) (drop q img))
+    rows_on : {q : ℕ} → Ends img value.read mid (At q) → last_of prev (rows_from O key value n prev (drop here img)) ≡ last_of (Some k) (rows_from O key value (n - 1) (Some k) (drop q img))
     rows_on {q} b = go mid a.same b.same
       where
         go : (m : Cursor) → key_after prev (drop here img) ≡ give img k m → passed (run img value.read m) ≡ got tt (drop q img)
-            → last_of prev (rows_from O key value n prev (drop here img)) ≡ last_of (some k) (rows_from O key value (n - 1) (some k) (drop q img))
+            → last_of prev (rows_from O key value n prev (drop here img)) ≡ last_of (Some k) (rows_from O key value (n - 1) (Some k) (drop q img))
         go (At m) e d =
             let g = ends-got {p = value.read} {n = m} {q = q} (record { same = d; within = b.within }) in
             rows_step n prev (drop here img) (drop q img) {k = k} {v = g.0} h (rw (e, g.1))
@@ -175,7 +175,7 @@ module _ {K A : Type 0} (O : Order K) (key : Codec K) (value : Codec A) where
     rising-passed s (fault f) e = rw e
     rising-passed s (got l r) e =
         let w = ((rows-one O key value one_key one_value most limit).forth s l r e).1 in
-        let m : Map O A = record { rows = l; rising = (all-rising O key value none l w.1.1).1.0 } in
+        let m : Map O A = record { rows = l; rising = (all-rising O key value None l w.1.1).1.0 } in
         rw (e, as_map-rows O m)
 
     pub ends-rising : {img : List ℕ} {at next : Cursor} → Ends img (rows O key value most limit).read at next → Ends img (rising O key value most limit).read at next
@@ -186,9 +186,9 @@ module _ {K A : Type 0} (O : Order K) (key : Codec K) (value : Codec A) where
         go (Stop f) = refl
 
     -- the count, and the rows after it
-    pub ends-list : {img : List ℕ} {at mid next : Cursor} {n : ℕ} → Answers img (number_read most) at 0 n mid → Ends img (rows_from O key value n none) mid next
+    pub ends-list : {img : List ℕ} {at mid next : Cursor} {n : ℕ} → Answers img (number_read most) at 0 n mid → Ends img (rows_from O key value n None) mid next
         → Ends img (rising O key value most limit).read at next
-    ends-list h g = ends-rising (ends-chosen (number_read most) (λ n r. rows_from O key value n none r) h.reads g)
+    ends-list h g = ends-rising (ends-chosen (number_read most) (λ n r. rows_from O key value n None r) h.reads g)
 
 last-passed : {K A : Type 0} (prev : Option K) {last : Option K} (o : Parsed (List (K × A))) {r : List ℕ} → last_of prev o ≡ got last r → passed o ≡ got tt r
 last-passed prev (fault f) e = never-got e
@@ -200,25 +200,25 @@ last-fault prev (got l q) e = never-got (sym e)
 
 -- The loop over the rows has come to `here`, where `left` are left after the key `prev`.
 pub record Passed {K A : Type 0} (O : Order K) (key : Codec K) (value : Codec A) (img : List ℕ) (first n : ℕ) (prev : Option K) (here left : ℕ) : Type 0 where
-  pub same : last_of none (rows_from O key value n none (drop first img)) ≡ last_of prev (rows_from O key value left prev (drop here img))
+  pub same : last_of None (rows_from O key value n None (drop first img)) ≡ last_of prev (rows_from O key value left prev (drop here img))
   pub within : here ≤ length img
 
 module _ {K A : Type 0} (O : Order K) (key : Codec K) (value : Codec A) {img : List ℕ} {first n : ℕ} where
-  pub passed_start : first ≤ length img → Passed O key value img first n none first n
+  pub passed_start : first ≤ length img → Passed O key value img first n None first n
   passed_start h = record { same = refl; within = h }
 
   module _ {prev : Option K} {here left : ℕ} (p : Passed O key value img first n prev here left) where
     -- the last key
-    pub passed-last : left ≤ 0 → last_of none (rows_from O key value n none (drop first img)) ≡ got prev (drop here img)
+    pub passed-last : left ≤ 0 → last_of None (rows_from O key value n None (drop first img)) ≡ got prev (drop here img)
     passed-last h = p.same ∙ rows_none O key value left prev (drop here img) h
 
-    pub passed-all : left ≤ 0 → Ends img (rows_from O key value n none) (At first) (At here)
-    passed-all h = record { same = last-passed none (rows_from O key value n none (drop first img)) (passed-last h); within = p.within }
+    pub passed-all : left ≤ 0 → Ends img (rows_from O key value n None) (At first) (At here)
+    passed-all h = record { same = last-passed None (rows_from O key value n None (drop first img)) (passed-last h); within = p.within }
 
     module _ {k : K} {mid next : Cursor} (h : 0 < left) (a : Reads img (only (after O prev) key).read (At here) k mid) (b : Ends img value.read mid next) where
-      pub passed_on : {q : ℕ} → next ≡ At q → Passed O key value img first n (some k) q (left - 1)
+      pub passed_on : {q : ℕ} → next ≡ At q → Passed O key value img first n (Some k) q (left - 1)
       passed_on e = let g = rw e at b in record { same = p.same ∙ rows_on O key value prev h a g; within = g.within }
 
-      pub passed-stop : {f : Fault} → next ≡ Stop f → Ends img (rows_from O key value n none) (At first) next
+      pub passed-stop : {f : Fault} → next ≡ Stop f → Ends img (rows_from O key value n None) (At first) next
       passed-stop e =
-          rw e (record { same = last-fault none (rows_from O key value n none (drop first img)) (p.same ∙ rows-fault O key value prev h a (rw e at b)); within = tt })
+          rw e (record { same = last-fault None (rows_from O key value n None (drop first img)) (p.same ∙ rows-fault O key value prev h a (rw e at b)); within = tt })

@@ -1,6 +1,5 @@
 // Lists by name: entries, removed names, attributes, attribute changes.
 ghost use Rattle.std.specs.Prelude.{◌≤◌, refl, length};
-ghost use Rattle.std.proofs.Math.Option.{none};
 ghost use Rattle.wire.specs.Combinators.{only};
 ghost use Rattle.wire.specs.Orders.{by_bytes};
 ghost use Rattle.wire.specs.Lists.{after, rising, last_count};
@@ -9,10 +8,11 @@ ghost use Rattle.image.specs.FieldLayout.{name as nameText};
 ghost use Rattle.image.specs.Under.{under};
 ghost use Rattle.image.specs.Places.{Ends, name_before, rows_from};
 
+use std::cmp::Ordering;
 use crate::field::{pass_maybe_text, pass_number, pass_text};
 use wire::cursor::{Cursor, Fault};
 use wire::number::read_number;
-use wire::order::{Ordering, compare_part};
+use wire::order::compare_part;
 use wire::part::part;
 use wire::text::{TextRead, no_text, read_text};
 
@@ -71,7 +71,7 @@ pub fn pass_names(img: &[u8], at: Cursor, what: Under) -> Cursor
 // Passes `count` rows of a list by name, the first of which is at `first`.
 fn names_from(img: &[u8], first: usize, count: u64, what: Under) -> Cursor
     requires { first ≤ length img.now }
-    ensures { Ends img.now (rows_from by_bytes nameText (under what) count none) (Cursor.At first) result }
+    ensures { Ends img.now (rows_from by_bytes nameText (under what) count None) (Cursor.At first) result }
 {
     let mut left = count;
     let mut here = first;

@@ -1,7 +1,7 @@
 -- A list by name in step with the names that lead somewhere below: which rows stay.
 -- Assumes nothing.
+use Rattle.std.specs.Prelude.{None, Option, Some}
 use mathlib.Core.Path.{◌≡◌, refl, sym, ap, ◌∙◌}
-use mathlib.Core.Option.{Option, none, some}
 use mathlib.Core.Bool.{Bool, true, false, cond}
 use mathlib.Core.List.{List, [], ◌∷◌, ◌++◌}
 use Prim.Native.Nat.{ℕ, zero, suc, ◌+◌, ◌-◌, ◌≤◌, ◌<◌}
@@ -11,8 +11,8 @@ use borrow.Author.Tests.{eq-eqb, ne_eqb}
 use lib.ListN.{length, drop}
 use Rattle.wire.specs.declared.cursor.Cursor.{Cursor}
 use Rattle.wire.specs.declared.cursor.Cursor.TheVariants.{At}
-use Rattle.wire.specs.declared.order.Ordering.{Ordering}
-use Rattle.wire.specs.declared.order.Ordering.TheVariants.{Less, Equal, Greater}
+use Rattle.std.specs.declared.cmp.Ordering.{Ordering}
+use Rattle.std.specs.declared.cmp.Ordering.TheVariants.{Less, Equal, Greater}
 use Rattle.wire.specs.Parse.{got}
 use Rattle.wire.specs.Combinators.{◌then◌}
 use Rattle.wire.specs.Number.{edge, number_read, number_bytes}
@@ -34,10 +34,7 @@ use Rattle.image.specs.Under.{UnderName, under}
 use Rattle.image.specs.declared.name.Under as UnderN
 use Rattle.image.specs.declared.name.Under.TheVariants as U
 use Rattle.nodes.specs.Listed.{by_name, list_at}
-use Rattle.nodes.specs.Options.{number_of}
 use Rattle.nodes.specs.declared.part.Part.{Part}
-use Rattle.nodes.specs.declared.option.OptionU64.{OptionU64}
-use Rattle.nodes.specs.declared.option.OptionU64.TheVariants as N
 use Rattle.writers.proofs.Writing.{part-written}
 use Rattle.rules.specs.Changes.{map_if}
 use Rattle.lookup.specs.Search.{IsList, row_name, Standing, ReadsRow}
@@ -82,7 +79,7 @@ module _ {K A : Type 0} (O : Order K) (p : K → A → Bool) where
   keep-lookup k (e ∷ l) r = go (p e.0 e.1) refl (O.cmp k e.0) refl (keep-lookup k l r.1)
     where
       go : (b : Bool) → p e.0 e.1 ≡ b → (d : Ordering) → O.cmp k e.0 ≡ d → lookup O k (keep_rows p l) ≡ sift (p k) (lookup O k l)
-          → lookup O k (cond b (e ∷ keep_rows p l) (keep_rows p l)) ≡ sift (p k) (choose d (some e.1) (lookup O k l))
+          → lookup O k (cond b (e ∷ keep_rows p l) (keep_rows p l)) ≡ sift (p k) (choose d (Some e.1) (lookup O k l))
       go true t Less q ih = rw q ih
       go true t Greater q ih = rw q ih
       go true t Equal q ih = rw (q, O.same k e.0 q, t)
@@ -139,7 +136,7 @@ module _ {img : List ℕ} {m : Merge} {k : Text} {rest : Merge} (g : Seeking img
           passes j l = rw one-row (go (by_bytes.cmp j (part img rest.start rest.length)) refl)
             where
               go : (x : Ordering) → by_bytes.cmp j (part img rest.start rest.length) ≡ x
-                  → map_if inode_given (choose x (some (given_of_merge img rest).1) (lookup by_bytes j (merge_gives img next))) ≡ leads_in img next j
+                  → map_if inode_given (choose x (Some (given_of_merge img rest).1) (lookup by_bytes j (merge_gives img next))) ≡ leads_in img next j
               go Less q = refl
               go Greater q = refl
               go Equal q = absurd (l (rw (by_bytes.same j (part img rest.start rest.length) q) (seen Less t)))
@@ -147,7 +144,7 @@ module _ {img : List ℕ} {m : Merge} {k : Text} {rest : Merge} (g : Seeking img
 -- ---- what a name leads to
 
 module _ {img : List ℕ} {m : Merge} {k : Text} (a : AtName img m k) where
-  pub leads-none : m.more ≡ false → number_of N.None ≡ leads_in img m k
+  pub leads-none : m.more ≡ false → None ≡ leads_in img m k
   unfolding lookup
   leads-none e = rw e
 
@@ -158,16 +155,16 @@ module _ {img : List ℕ} {m : Merge} {k : Text} (a : AtName img m k) where
     cmp-is : (x : Ordering) → o ≡ x → by_bytes.cmp (part img m.start m.length) k ≡ x
     cmp-is x t = rw (← e, ← d) t
 
-    pub leads-less : o ≡ Less → number_of N.None ≡ leads_in img m k
+    pub leads-less : o ≡ Less → None ≡ leads_in img m k
     leads-less t = absurd (a.first h (cmp-is Less t))
 
-    pub leads-equal : o ≡ Equal → number_of (N.Some m.inode) ≡ leads_in img m k
+    pub leads-equal : o ≡ Equal → (Some m.inode) ≡ leads_in img m k
     unfolding lookup
     leads-equal t =
         let z = by_bytes.same (part img m.start m.length) k (cmp-is Equal t) in
         rw (rows, z, by_bytes.self k)
 
-    pub leads-greater : o ≡ Greater → number_of N.None ≡ leads_in img m k
+    pub leads-greater : o ≡ Greater → None ≡ leads_in img m k
     leads-greater t =
         let l = by_bytes.flip (part img m.start m.length) k (cmp-is Greater t) in
         let u = rw rows at a.rises.rising in
@@ -181,15 +178,15 @@ eqb-self n = eq-eqb n n refl
 eqb_apart : (i n : ℕ) → (i ≡ n → ⊥) → eqb i n ≡ false
 eqb_apart i n h = ne_eqb i n h
 
-module _ {img : List ℕ} {b : OptionU64} {p : ℕ} where
-  pub keeps-unled : b ≡ N.None → Keeps img U.Inode (number_of b) p true
+module _ {img : List ℕ} {b : Option ℕ} {p : ℕ} where
+  pub keeps-unled : b ≡ None → Keeps img U.Inode b p true
   keeps-unled e = record { is = λ v s d. rw e }
 
-  module _ {i : ℕ} (e : b ≡ N.Some i) {n : ℕ} {next : Cursor} (a : Answers img (number_read edge) (At p) 0 n next) where
-    pub keeps_same : i ≡ n → Keeps img U.Inode (number_of b) p false
+  module _ {i : ℕ} (e : b ≡ Some i) {n : ℕ} {next : Cursor} (a : Answers img (number_read edge) (At p) 0 n next) where
+    pub keeps_same : i ≡ n → Keeps img U.Inode b p false
     keeps_same h = record { is = λ v s d. let z : n ≡ v = read_same d a.reads in rw (e, h, z, eqb-self v) }
 
-    pub keeps-other : (i ≡ n → ⊥) → Keeps img U.Inode (number_of b) p true
+    pub keeps-other : (i ≡ n → ⊥) → Keeps img U.Inode b p true
     keeps-other h = record { is = λ v s d. let z : n ≡ v = read_same d a.reads in rw (e, ← z, eqb_apart i n h) }
 
 module _ {img : List ℕ} {u : UnderN.Under} {o : Option ℕ} {p : ℕ} {r : Bool} where
@@ -224,7 +221,7 @@ pub record Keeping (img : List ℕ) (u : UnderN.Under) (m : Merge) (old : List �
   pub low : k.at ≤ edge
   pub same : length buf ≡ length old
   pub short : length old < edge
-  pub kept : (l : List (Text × UnderName u)) → Standing img u none first total l → Progress img u m old at l here left rest buf k
+  pub kept : (l : List (Text × UnderName u)) → Standing img u None first total l → Progress img u m old at l here left rest buf k
 
 agree-start : {A : Type 0} (f : Text → Option ℕ) (l : List (Text × A)) → Every (λ (e : Text × A). f e.0 ≡ f e.0) l
 agree-start f [] = tt
@@ -237,7 +234,7 @@ keeping_start {img} {u} {m} r a s = record {
   low = a;
   same = refl;
   short = s;
-  kept = λ l w. record { prev = none; rows = l; standing = w; agree = agree-start (leads_in img m) l; put = λ r new p. p; counts = omega arith };
+  kept = λ l w. record { prev = None; rows = l; standing = w; agree = agree-start (leads_in img m) l; put = λ r new p. p; counts = omega arith };
 }
 
 -- no row is left
@@ -262,7 +259,7 @@ keep-few p (e ∷ l) = go (p e.0 e.1) (keep-few p l)
 
 module _ {img : List ℕ} {u : UnderN.Under} {m : Merge} {old : List ℕ} {at first total here left : ℕ} {rest : Merge} {buf : List ℕ} {k : Kept}
     (g : Keeping img u m old at first total here left rest buf k) where
-  module _ {p : Part} (l : Standing img u none first total (list_at img u p).rows) where
+  module _ {p : Part} (l : Standing img u None first total (list_at img u p).rows) where
     pub keeping_all : left ≤ 0 → PutsKept img u p m old at k buf
     unfolding rows_bytes
     keeping_all h =
@@ -309,7 +306,7 @@ module _ {img : List ℕ} {u : UnderN.Under} {m : Merge} {old : List ℕ} {at fi
         on true e =
             let y = p.stayed e in
             record {
-              prev = some (row_name img r);
+              prev = Some (row_name img r);
               rows = t.others;
               standing = t.standing;
               agree = later t.others t.rise agrees.1;
@@ -320,7 +317,7 @@ module _ {img : List ℕ} {u : UnderN.Under} {m : Merge} {old : List ℕ} {at fi
             let y = p.dropped e in
             rw (y.0, y.1)
             (record {
-              prev = some (row_name img r);
+              prev = Some (row_name img r);
               rows = t.others;
               standing = t.standing;
               agree = later t.others t.rise agrees.1;
@@ -357,4 +354,4 @@ pub kept-list : {img : List ℕ} {u : UnderN.Under} {p : Part} {m : Merge} {old 
 kept-list {img} {u} {p} {m} a b c =
     let t = list_at img u p in
     let e : (kept_map u (leads_in img m) t).rows ≡ kept_rows u (leads_in img m) t.rows = keep-are by_bytes (λ k v. keeps u (leads_in img m k) v) t in
-    rw (e, chain-rows by_bytes name (under u) none (kept_rows u (leads_in img m) t.rows), ← a.count) (put-append b c.put)
+    rw (e, chain-rows by_bytes name (under u) None (kept_rows u (leads_in img m) t.rows), ← a.count) (put-append b c.put)

@@ -1,7 +1,8 @@
 -- The lists of a stack, as sources from the top, give the names that lead somewhere.
 -- Assumes nothing.
+use Rattle.nodes.specs.declared.part.Part.{Part}
+use Rattle.std.specs.Prelude.{None, Option, Some}
 use mathlib.Core.Path.{◌≡◌, refl, sym, ap, ◌∙◌}
-use mathlib.Core.Option.{Option, none, some}
 use mathlib.Core.List.{List, [], ◌∷◌, ◌++◌, append-nil}
 use Prim.Native.Nat.{ℕ, ◌+◌, ◌-◌, ◌*◌, ◌≤◌, ◌<◌}
 use native.Mathlib.Omega.{arith}
@@ -15,8 +16,6 @@ use Rattle.survey.specs.declared.batch.InodeLayerStack.{InodeLayerStack}
 use Rattle.image.specs.declared.name.Under as UnderN
 use Rattle.image.specs.declared.name.Under.TheVariants as U
 use Rattle.image.specs.Under.{UnderName, under}
-use Rattle.nodes.specs.declared.option.OptionPart.{OptionPart}
-use Rattle.nodes.specs.declared.option.OptionPart.TheVariants as P
 use Rattle.deltas.specs.declared.delta.DirectoryDelta.{DirectoryDelta}
 use Rattle.deltas.specs.declared.delta.NodeDelta.{NodeDelta}
 use Rattle.deltas.specs.declared.delta.NodeDelta.TheVariants as D
@@ -56,7 +55,7 @@ lead-append : (k : Text) (xs ys : List Deciding) (x : Option ℕ) → lead_or k 
 lead-append k [] ys x = refl
 lead-append k (c ∷ xs) ys x = ap (meet (λ o y. map_if inode_given o) (get by_bytes k c)) (lead-append k xs ys x)
 
-lead-merged : (k : Text) (cs : List Deciding) → lead_or k cs none ≡ map_if inode_given (get by_bytes k (merged by_bytes (itself by_bytes) cs))
+lead-merged : (k : Text) (cs : List Deciding) → lead_or k cs None ≡ map_if inode_given (get by_bytes k (merged by_bytes (itself by_bytes) cs))
 unfolding merged
 lead-merged k [] = rw get-empty
 lead-merged k (c ∷ cs) = rw (get-merge, lead-merged k cs) (go (get by_bytes k c))
@@ -64,26 +63,26 @@ lead-merged k (c ∷ cs) = rw (get-merge, lead-merged k cs) (go (get by_bytes k 
     go : (o : Option (Option (ℕ × Given)))
         → meet (λ o y. map_if inode_given o) o (map_if inode_given (get by_bytes k (merged by_bytes (itself by_bytes) cs)))
         ≡ map_if inode_given (meet (itself by_bytes k) o (get by_bytes k (merged by_bytes (itself by_bytes) cs)))
-    go none = refl
-    go (some o) = refl
+    go None = refl
+    go (Some o) = refl
 
 -- removed names, and added entries
 get-start : (k : Text) (u : UnderN.Under) (q : ℕ) (m : Map by_bytes (UnderName u)) → get by_bytes k m ≡ map_if (λ x. x.1) (get by_bytes k (starts (under u) q m))
 get-start k u q m = ap (get by_bytes k) (sym (starts-forgotten (under u) q m)) ∙ get-map by_bytes (λ x. x.1) k (starts (under u) q m)
 
-removed-lead : (k : Text) (q : ℕ) (m : Names) (x : Option ℕ) → lead_or k (source_of U.Nothing q m ∷ []) x ≡ meet (λ u y. none) (get by_bytes k m) x
+removed-lead : (k : Text) (q : ℕ) (m : Names) (x : Option ℕ) → lead_or k (source_of U.Nothing q m ∷ []) x ≡ meet (λ u y. None) (get by_bytes k m) x
 removed-lead k q m x = rw (get-map, get-start k U.Nothing q m) (go (get by_bytes k (starts (under U.Nothing) q m)))
   where
-    go : (o : Option (ℕ × Unit {0})) → meet (λ o y. map_if inode_given o) (map_if (decided U.Nothing) o) x ≡ meet (λ u y. none) (map_if (λ x. x.1) o) x
-    go none = refl
-    go (some a) = refl
+    go : (o : Option (ℕ × Unit {0})) → meet (λ o y. map_if inode_given o) (map_if (decided U.Nothing) o) x ≡ meet (λ u y. None) (map_if (λ x. x.1) o) x
+    go None = refl
+    go (Some a) = refl
 
-added-lead : (k : Text) (q : ℕ) (m : Entries) (x : Option ℕ) → lead_or k (source_of U.Inode q m ∷ []) x ≡ meet (λ i y. some i) (get by_bytes k m) x
+added-lead : (k : Text) (q : ℕ) (m : Entries) (x : Option ℕ) → lead_or k (source_of U.Inode q m ∷ []) x ≡ meet (λ i y. Some i) (get by_bytes k m) x
 added-lead k q m x = rw (get-map, get-start k U.Inode q m) (go (get by_bytes k (starts (under U.Inode) q m)))
   where
-    go : (o : Option (ℕ × ℕ)) → meet (λ o y. map_if inode_given o) (map_if (decided U.Inode) o) x ≡ meet (λ i y. some i) (map_if (λ x. x.1) o) x
-    go none = refl
-    go (some a) = refl
+    go : (o : Option (ℕ × ℕ)) → meet (λ o y. map_if inode_given o) (map_if (decided U.Inode) o) x ≡ meet (λ i y. Some i) (map_if (λ x. x.1) o) x
+    go None = refl
+    go (Some a) = refl
 
 -- ---- the walk from the top
 
@@ -96,12 +95,12 @@ pub record Leading (img : List ℕ) (s : InodeLayerStack) (all : Sources) (i : �
   pub are : sources_of img all ≡ pile_rows maps
   pub same : (k : Text) → shown (child k) img s ≡ lead_or k maps (shown_under (child k) img s i)
 
-pub one_list : (img : List ℕ) (o : OptionPart) (f : AtMostTwo) → rows_in img f ≡ lists_if img U.Inode o → how_many f ≤ 1
-one_list img (P.Some p) f e = omega (arith, many-rows img f, ap length e)
-one_list img P.None f e = omega (arith, many-rows img f, ap length e)
+pub one_list : (img : List ℕ) (o : Option Part) (f : AtMostTwo) → rows_in img f ≡ lists_if img U.Inode o → how_many f ≤ 1
+one_list img (Some p) f e = omega (arith, many-rows img f, ap length e)
+one_list img None f e = omega (arith, many-rows img f, ap length e)
 
 leads-of : {img : List ℕ} {s : InodeLayerStack} {all : Sources} → Whole all → (maps : List Deciding) → sources_of img all ≡ pile_rows maps
-    → ((k : Text) → shown (child k) img s ≡ lead_or k maps none) → Leads img s all
+    → ((k : Text) → shown (child k) img s ≡ lead_or k maps None) → Leads img s all
 unfolding get
 leads-of w maps e f = record {
   ready = record { whole = w; ascend = rw e (pile-ascends maps) };
@@ -148,15 +147,15 @@ module _ {img : List ℕ} {s : InodeLayerStack} {all : Sources} where
         }
 
   -- "Last, a base directory's entries."
-  pub leading-all : {i : ℕ} → i ≤ 0 → Leading img s all i → (o : OptionPart) → BaseEntries img s o → {out : Sources} → Pushes img all (lists_if img U.Inode o) out → Leads img s out
+  pub leading-all : {i : ℕ} → i ≤ 0 → Leading img s all i → (o : Option Part) → BaseEntries img s o → {out : Sources} → Pushes img all (lists_if img U.Inode o) out → Leads img s out
   unfolding rows_of
-  leading-all {i} h g P.None b p =
+  leading-all {i} h g None b p =
       let z : i ≡ 0 = omega arith in
       leads-of p.whole g.maps (p.are ∙ rw (g.are, append-nil)) (λ k. g.same k ∙ ap (lead_or k g.maps) (rw z (b k)))
-  leading-all {i} h g (P.Some q) b p =
+  leading-all {i} h g (Some q) b p =
       let z : i ≡ 0 = omega arith in
       let m = list_at img U.Inode q in
       let xs = source_of U.Inode q.start m ∷ [] in
       let l = (b []).0 in
       leads-of p.whole (g.maps ++ xs) (p.are ∙ rw (g.are, list-are img U.Inode q.start m (drop l.0 img) l.1.is, rows_append))
-      (λ k. g.same k ∙ ap (lead_or k g.maps) (rw z (b k).1 ∙ sym (added-lead k q.start m none)) ∙ sym (lead-append k g.maps xs none))
+      (λ k. g.same k ∙ ap (lead_or k g.maps) (rw z (b k).1 ∙ sym (added-lead k q.start m None)) ∙ sym (lead-append k g.maps xs None))

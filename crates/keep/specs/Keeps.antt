@@ -1,7 +1,6 @@
 -- The rows that stay. Document 01: "it drops added names that lead to the same inode below and removed names that lead to none."
-use Rattle.std.specs.Prelude.{◌≡◌, Bool, true, false, not, cond, List, [], ◌∷◌, ℕ, ◌+◌, length, drop}
-use Rattle.std.proofs.Math.Option.{Option}
-use Rattle.wire.specs.declared.order.Ordering.TheVariants.{Less}
+use Rattle.std.specs.Prelude.{◌≡◌, Bool, true, false, not, cond, List, [], ◌∷◌, ℕ, ◌+◌, length, drop, Option}
+use Rattle.std.specs.declared.cmp.Ordering.TheVariants.{Less}
 use Rattle.wire.specs.Parse.{got}
 use Rattle.wire.specs.Orders.{by_bytes}
 use Rattle.wire.specs.Rows.{lookup, Rising}

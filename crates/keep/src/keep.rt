@@ -7,19 +7,18 @@ ghost use Rattle.change.specs.Sections.{between};
 ghost use Rattle.wire.specs.Reading.{part as part_of};
 ghost use Rattle.rules.specs.Reads.{is_there};
 ghost use Rattle.nodes.specs.Listed.{by_name, list_at};
-ghost use Rattle.nodes.specs.Options.{number_of};
 ghost use Rattle.lookup.specs.Search.{IsList};
 ghost use Rattle.keep.specs.Keeps.{Rises, AtName, Sought, leads_in, Keeps, PutsRow, PutsKept, kept_map};
 
+use std::cmp::Ordering;
 use change::copy::put_between;
 use image::name::Under;
 use lookup::search::{read_row, rows_of};
 use merge::merge::{Merge, settle};
-use nodes::option::OptionU64;
 use nodes::part::Part;
 use wire::cursor::Cursor;
 use wire::number::{put_number, read_number};
-use wire::order::{Ordering, compare_part};
+use wire::order::compare_part;
 use wire::part::part;
 
 // The place after the rows that stay, and how many they are.
@@ -48,34 +47,34 @@ fn seek(img: &[u8], merge: Merge, start: usize, length: usize) -> Merge
 }
 
 // The inode that a name leads to, where the names that are less are passed.
-fn leads_to(img: &[u8], merge: Merge, start: usize, length: usize) -> OptionU64
+fn leads_to(img: &[u8], merge: Merge, start: usize, length: usize) -> Option<u64>
     requires { AtName img.now merge (part_of img.now start length) }
-    ensures { number_of result ≡ leads_in img.now merge (part_of img.now start length) }
+    ensures { result ≡ leads_in img.now merge (part_of img.now start length) }
 {
     if merge.more {
         match compare_part(img, merge.start, merge.length, part(img, start, length)) {
             Ordering::Less => {}
-            Ordering::Equal => return OptionU64::Some(merge.inode),
+            Ordering::Equal => return Some(merge.inode),
             Ordering::Greater => {}
         }
     }
-    OptionU64::None
+    None
 }
 
-fn is_there(below: OptionU64) -> bool
-    ensures { result ≡ is_there (number_of below) }
+fn is_there(below: Option<u64>) -> bool
+    ensures { result ≡ is_there below }
 {
     match below {
-        OptionU64::Some(_) => true,
-        OptionU64::None => false,
+        Some(_) => true,
+        None => false,
     }
 }
 
 // An entry stays, unless its name leads to the same inode below.
-fn is_entry_kept(img: &[u8], below: OptionU64, under: usize) -> bool
-    ensures { Keeps img.now U.Inode (number_of below) under result }
+fn is_entry_kept(img: &[u8], below: Option<u64>, under: usize) -> bool
+    ensures { Keeps img.now U.Inode below under result }
 {
-    let OptionU64::Some(inode) = below else {
+    let Some(inode) = below else {
         return true;
     };
     let number = read_number(img, Cursor::At(under), 0xFFFF_FFFF_FFFF_FFFF);
@@ -86,8 +85,8 @@ fn is_entry_kept(img: &[u8], below: OptionU64, under: usize) -> bool
 }
 
 // A removed name stays, if it leads anywhere.
-fn is_kept(img: &[u8], what: Under, below: OptionU64, under: usize) -> bool
-    ensures { Keeps img.now what (number_of below) under result }
+fn is_kept(img: &[u8], what: Under, below: Option<u64>, under: usize) -> bool
+    ensures { Keeps img.now what below under result }
 {
     match what {
         Under::Inode => is_entry_kept(img, below, under),

@@ -1,13 +1,13 @@
 -- Attributes from the bottom: the base's, and what each record makes of them.
 -- Assumes nothing.
+use Rattle.nodes.specs.declared.node.Node.{Node}
+use Rattle.std.specs.Prelude.{None, Option, Some}
 use mathlib.Core.Path.{◌≡◌, sym, ap, ◌∙◌}
 use mathlib.Core.List.{List}
-use mathlib.Core.Option.{Option, none, some}
 use Prim.Native.Nat.{ℕ, ◌+◌, ◌<◌, ◌≤◌}
 use native.Mathlib.Omega.{arith}
 use lib.ListN.{get_or}
 use Rattle.survey.specs.declared.batch.InodeLayerStack.{InodeLayerStack}
-use Rattle.passes.specs.Held.{place_of}
 use Rattle.rules.specs.Initial.{usual}
 use Rattle.rules.specs.FileAttrs.{FileAttr, attributes, base_attr, step_attr}
 use Rattle.nodes.specs.declared.node.NodeKind.{NodeKind}
@@ -19,9 +19,6 @@ use Rattle.deltas.specs.declared.delta.EntryDelta.TheVariants as E
 use Rattle.nodes.specs.Nodes.{EntriesListed}
 use Rattle.deltas.specs.Deltas.{entry_meant, ChangeListed, EntryListed}
 use Rattle.attrs.specs.Attrs.{TargetIn, LinkIn}
-use Rattle.stack.specs.declared.stack.OptionNode.{OptionNode}
-use Rattle.stack.specs.declared.stack.OptionNode.TheVariants as O
-use Rattle.layers.specs.declared.attr.OptionAttr.{OptionAttr}
 use Rattle.layers.specs.Attrs.{EntryTargetIn, BaseLinkIn, attr_if}
 use Rattle.stack.specs.Stacks.{Stacked, shown_under, shown, RecordIs, BaseIs, node_meant_if}
 use Rattle.stack.proofs.Walks.{shown-base, shown-more}
@@ -50,31 +47,31 @@ kind-in img (K.CharDevice r) end h = tt
 kind-in img (K.BlockDevice r) end h = tt
 kind-in img K.Socket end h = tt
 
-base-in : (img : List ℕ) (p : Option ℕ) (o : OptionNode) → BaseIs img p o → BaseLinkIn img o
-base-in img p O.None b = tt
-base-in img none (O.Some n) b = absurd b
-base-in img (some p) (O.Some n) b = kind-in img n.kind b.end b.reads.entries
+base-in : (img : List ℕ) (p : Option ℕ) (o : Option Node) → BaseIs img p o → BaseLinkIn img o
+base-in img p None b = tt
+base-in img None (Some n) b = absurd b
+base-in img (Some p) (Some n) b = kind-in img n.kind b.end b.reads.entries
 
 -- ---- the walk
 
 -- the attributes that the lowest i records and the node of a stack show
-pub record Risen (ino : ℕ) (img : List ℕ) (s : InodeLayerStack) (i : ℕ) (a : OptionAttr) : Type 0 where
+pub record Risen (ino : ℕ) (img : List ℕ) (s : InodeLayerStack) (i : ℕ) (a : Option FileAttr) : Type 0 where
   pub low : i ≤ s.count
   pub same : attr_if a ≡ shown_under (attributes usual ino) img s i
 
 module _ {ino : ℕ} {img : List ℕ} {s : InodeLayerStack} where
   -- "Start at the base's"
-  pub rise-start : (o : OptionNode) {a : OptionAttr} → BaseIs img (place_of s.base) o
+  pub rise-start : (o : Option Node) {a : Option FileAttr} → BaseIs img s.base o
       → ((m : List ℕ) → BaseLinkIn m o → attr_if a ≡ base_attr ino (node_meant_if m o)) → Risen ino img s 0 a
-  rise-start o b h = record { low = omega arith; same = h img (base-in img (place_of s.base) o b) ∙ sym (shown-base (attributes usual ino) img s o b) }
+  rise-start o b h = record { low = omega arith; same = h img (base-in img s.base o b) ∙ sym (shown-base (attributes usual ino) img s o b) }
 
   -- what the record above them makes of them
-  pub rise-on : {i : ℕ} {e : EntryDelta} {a x : OptionAttr} → Stacked img s → Risen ino img s i a → i < s.count → RecordIs img (get_or s.deltas i 0) e
+  pub rise-on : {i : ℕ} {e : EntryDelta} {a x : Option FileAttr} → Stacked img s → Risen ino img s i a → i < s.count → RecordIs img (get_or s.deltas i 0) e
       → ((m : List ℕ) → EntryTargetIn m e → attr_if x ≡ step_attr usual ino (entry_meant m e) (attr_if a)) → Risen ino img s (i + 1) x
   rise-on {i} {e} h w l g f = record {
     low = omega (arith, l);
     same = f img (entry_in img e g.end g.reads.lists) ∙ ap (λ (z : Option FileAttr). step_attr usual ino (entry_meant img e) z) w.same ∙ sym (shown-more h (attributes usual ino) i l g);
   }
 
-  pub rise-end : {i : ℕ} {a : OptionAttr} → Risen ino img s i a → s.count ≤ i → attr_if a ≡ shown (attributes usual ino) img s
+  pub rise-end : {i : ℕ} {a : Option FileAttr} → Risen ino img s i a → s.count ≤ i → attr_if a ≡ shown (attributes usual ino) img s
   rise-end {i} w l = let z : i ≡ s.count = omega (arith, w.low) in w.same ∙ ap (λ (n : ℕ). shown_under (attributes usual ino) img s n) z

@@ -1,7 +1,6 @@
 -- What each answer of a call means. Document 01: "If an answer is an enum, a definition states this paper's number and values for each of the
 -- enum's cases."
-use Rattle.std.specs.Prelude.{Bool, true, false, List, ℕ, take}
-use Rattle.std.proofs.Math.Option.{Option, none, some}
+use Rattle.std.specs.Prelude.{Bool, true, false, List, ℕ, take, None, Option, Some}
 use Rattle.image.specs.Meaning.{Kind}
 use Rattle.rules.specs.Answers.{Answer, refused, answer}
 use Rattle.rules.specs.FileAttrs as R
@@ -26,23 +25,23 @@ yes_no Y.Yes = answer true
 -- "'None' is an answer."
 abbrev pub type_answered : TypeAnswer → Answer (Option Kind)
 type_answered (T.Refused n) = refused n
-type_answered T.None = answer none
-type_answered (T.Type t) = answer (some (kind_meant t))
+type_answered T.None = answer None
+type_answered (T.Type t) = answer (Some (kind_meant t))
 
 -- "its inode", or "none"
 abbrev pub inode_answered : InodeAnswer → Answer (Option ℕ)
 inode_answered (I.Refused n) = refused n
-inode_answered I.None = answer none
-inode_answered (I.Inode i) = answer (some i)
+inode_answered I.None = answer None
+inode_answered (I.Inode i) = answer (Some i)
 
 -- "a tombstone clears": no attributes is an answer
 abbrev pub attr_answered : AttrAnswer → Answer (Option R.FileAttr)
 attr_answered (A.Refused n) = refused n
-attr_answered A.None = answer none
-attr_answered (A.Attr a) = answer (some (attr_meant a))
+attr_answered A.None = answer None
+attr_answered (A.Attr a) = answer (Some (attr_meant a))
 
 -- "A listing fills a lent row of entries": so many of the rows as they are after the call
 abbrev pub rows_answered : {E : Type 0} → List E → RowsAnswer → Answer (Option (List E))
 rows_answered rows (Rows.Refused n) = refused n
-rows_answered rows Rows.None = answer none
-rows_answered rows (Rows.Rows n) = answer (some (take n rows))
+rows_answered rows Rows.None = answer None
+rows_answered rows (Rows.Rows n) = answer (Some (take n rows))

@@ -8,18 +8,13 @@ ghost use Rattle.layers.specs.Attrs.{EntryTargetIn, BaseLinkIn, attr_if};
 ghost use Rattle.layers.specs.Answered.{attr_answered};
 ghost use Rattle.stack.specs.Stacks.{Stacked, shown, node_meant_if};
 
+use nodes::node::Node;
 use crate::answer::AttrAnswer;
 use attrs::attr::{applied, initial_attr, node_attr};
 use attrs::node::FileAttr;
 use deltas::delta::EntryDelta;
-use stack::stack::{OptionNode, base_node, open_image, record_at};
+use stack::stack::{base_node, open_image, record_at};
 use survey::batch::InodeLayerStack;
-
-#[derive(Clone, Copy)]
-pub enum OptionAttr {
-    Some(FileAttr),
-    None,
-}
 
 // The attributes of the inode.
 pub fn attr(img: &[u8], ino: u64) -> AttrAnswer
@@ -33,35 +28,35 @@ pub fn attr(img: &[u8], ino: u64) -> AttrAnswer
     let stack = opened.stack;
     let found = shown_attr(img, stack, ino);
     match found {
-        OptionAttr::Some(attr) => AttrAnswer::Attr(attr),
-        OptionAttr::None => AttrAnswer::None,
+        Some(attr) => AttrAnswer::Attr(attr),
+        None => AttrAnswer::None,
     }
 }
 
 // What a record makes of the attributes below it.
-fn step_attr(entry: EntryDelta, below: OptionAttr, ino: u64) -> OptionAttr
+fn step_attr(entry: EntryDelta, below: Option<FileAttr>, ino: u64) -> Option<FileAttr>
     ensures { (img : List ℕ) → EntryTargetIn img entry → attr_if result ≡ step_attr usual ino (entry_meant img entry) (attr_if below) }
 {
     match entry {
         EntryDelta::Node(delta) => match below {
-            OptionAttr::Some(attr) => OptionAttr::Some(applied(delta, attr)),
-            OptionAttr::None => OptionAttr::Some(applied(delta, initial_attr(delta, ino))),
+            Some(attr) => Some(applied(delta, attr)),
+            None => Some(applied(delta, initial_attr(delta, ino))),
         },
-        EntryDelta::Tombstone => OptionAttr::None,
+        EntryDelta::Tombstone => None,
     }
 }
 
-fn base_attr(base: OptionNode, ino: u64) -> OptionAttr
+fn base_attr(base: Option<Node>, ino: u64) -> Option<FileAttr>
     ensures { (img : List ℕ) → BaseLinkIn img base → attr_if result ≡ base_attr ino (node_meant_if img base) }
 {
     match base {
-        OptionNode::Some(node) => OptionAttr::Some(node_attr(node, ino)),
-        OptionNode::None => OptionAttr::None,
+        Some(node) => Some(node_attr(node, ino)),
+        None => None,
     }
 }
 
 // From the bottom: the base's, and what each record makes of them.
-pub fn shown_attr(img: &[u8], stack: InodeLayerStack, ino: u64) -> OptionAttr
+pub fn shown_attr(img: &[u8], stack: InodeLayerStack, ino: u64) -> Option<FileAttr>
     requires { Stacked img.now stack }
     ensures { attr_if result ≡ shown (attributes usual ino) img.now stack }
 {

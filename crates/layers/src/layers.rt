@@ -3,16 +3,16 @@ ghost use Rattle.std.specs.Prelude.{◌≡◌};
 ghost use Rattle.rules.specs.Initial.{usual};
 ghost use Rattle.rules.specs.Reads.{link_text, parent};
 ghost use Rattle.rules.specs.ReadCalls.{exists, file_type, read_link, has_link, parent_dir_inode, text_of};
-ghost use Rattle.nodes.specs.Options.{number_of, text_of as textMeant};
+ghost use Rattle.nodes.specs.Options.{text_of as textMeant};
 ghost use Rattle.stack.specs.Stacks.{Stacked, shown};
 ghost use Rattle.layers.specs.Answered.{yes_no, type_answered, inode_answered};
 
+use nodes::part::Part;
 use crate::answer::{InodeAnswer, TypeAnswer, YesNo};
 use deltas::delta::{EntryDelta, NodeDelta};
 use nodes::node::NodeKind;
-use nodes::option::{OptionPart, OptionU64};
-use stack::file_type::{OptionType, type_in};
-use stack::stack::{OptionNode, base_node, open_image, record_at};
+use stack::file_type::type_in;
+use stack::stack::{base_node, open_image, record_at};
 use survey::batch::InodeLayerStack;
 use wire::part::part;
 
@@ -28,8 +28,8 @@ pub fn exists(img: &[u8], ino: u64) -> YesNo
     let stack = opened.stack;
     let found = type_in(img, stack);
     match found {
-        OptionType::Some(_) => YesNo::Yes,
-        OptionType::None => YesNo::No,
+        Some(_) => YesNo::Yes,
+        None => YesNo::No,
     }
 }
 
@@ -45,8 +45,8 @@ pub fn file_type(img: &[u8], ino: u64) -> TypeAnswer
     let stack = opened.stack;
     let found = type_in(img, stack);
     match found {
-        OptionType::Some(kind) => TypeAnswer::Type(kind),
-        OptionType::None => TypeAnswer::None,
+        Some(kind) => TypeAnswer::Type(kind),
+        None => TypeAnswer::None,
     }
 }
 
@@ -65,8 +65,8 @@ pub fn parent_dir_inode(img: &[u8], ino: u64) -> InodeAnswer
     let stack = opened.stack;
     let found = parent_in(img, stack);
     match found {
-        OptionU64::Some(inode) => InodeAnswer::Inode(inode),
-        OptionU64::None => InodeAnswer::None,
+        Some(inode) => InodeAnswer::Inode(inode),
+        None => InodeAnswer::None,
     }
 }
 
@@ -81,8 +81,8 @@ pub fn read_link(img: &[u8], ino: u64) -> &[u8]
     let stack = opened.stack;
     let found = link_in(img, stack);
     match found {
-        OptionPart::Some(text) => part(img, text.start, text.length),
-        OptionPart::None => part(img, 0, 0),
+        Some(text) => part(img, text.start, text.length),
+        None => part(img, 0, 0),
     }
 }
 
@@ -98,15 +98,15 @@ pub fn has_link(img: &[u8], ino: u64) -> YesNo
     let stack = opened.stack;
     let found = link_in(img, stack);
     match found {
-        OptionPart::Some(_) => YesNo::Yes,
-        OptionPart::None => YesNo::No,
+        Some(_) => YesNo::Yes,
+        None => YesNo::No,
     }
 }
 
 // From the top: the first directory delta with a parent; a tombstone or another kind, none; then a base directory's.
-fn parent_in(img: &[u8], stack: InodeLayerStack) -> OptionU64
+fn parent_in(img: &[u8], stack: InodeLayerStack) -> Option<u64>
     requires { Stacked img.now stack }
-    ensures { number_of result ≡ shown parent img.now stack }
+    ensures { result ≡ shown parent img.now stack }
 {
     for i in (0..stack.count).rev() {
         let entry = record_at(img, stack, i);
@@ -115,30 +115,30 @@ fn parent_in(img: &[u8], stack: InodeLayerStack) -> OptionU64
                 NodeDelta::Directory(directory) => {
                     let given = directory.parent;
                     match given {
-                        OptionU64::Some(inode) => return OptionU64::Some(inode),
-                        OptionU64::None => {}
+                        Some(inode) => return Some(inode),
+                        None => {}
                     }
                 }
-                _ => return OptionU64::None,
+                _ => return None,
             },
-            EntryDelta::Tombstone => return OptionU64::None,
+            EntryDelta::Tombstone => return None,
         }
     }
     let base = base_node(img, stack);
     match base {
-        OptionNode::Some(node) => {
+        Some(node) => {
             let kind = node.kind;
             match kind {
-                NodeKind::Directory { parent, .. } => OptionU64::Some(parent),
-                _ => OptionU64::None,
+                NodeKind::Directory { parent, .. } => Some(parent),
+                _ => None,
             }
         }
-        OptionNode::None => OptionU64::None,
+        None => None,
     }
 }
 
 // From the top: the first symlink delta with a target; a tombstone or another kind, none; then a base symlink's.
-pub fn link_in(img: &[u8], stack: InodeLayerStack) -> OptionPart
+pub fn link_in(img: &[u8], stack: InodeLayerStack) -> Option<Part>
     requires { Stacked img.now stack }
     ensures { textMeant img.now result ≡ shown link_text img.now stack }
 {
@@ -149,24 +149,24 @@ pub fn link_in(img: &[u8], stack: InodeLayerStack) -> OptionPart
                 NodeDelta::Symlink(link) => {
                     let given = link.target;
                     match given {
-                        OptionPart::Some(text) => return OptionPart::Some(text),
-                        OptionPart::None => {}
+                        Some(text) => return Some(text),
+                        None => {}
                     }
                 }
-                _ => return OptionPart::None,
+                _ => return None,
             },
-            EntryDelta::Tombstone => return OptionPart::None,
+            EntryDelta::Tombstone => return None,
         }
     }
     let base = base_node(img, stack);
     match base {
-        OptionNode::Some(node) => {
+        Some(node) => {
             let kind = node.kind;
             match kind {
-                NodeKind::Symlink { target } => OptionPart::Some(target),
-                _ => OptionPart::None,
+                NodeKind::Symlink { target } => Some(target),
+                _ => None,
             }
         }
-        OptionNode::None => OptionPart::None,
+        None => None,
     }
 }

@@ -1,8 +1,8 @@
 -- Document 01's root on paper, listed.
+use Rattle.std.specs.Prelude.{Some}
 use Prim.Native.Nat.{ℕ}
 use mathlib.Core.Path.{◌≡◌, refl, ap, ◌∙◌}
 use mathlib.Core.List.{List, [], ◌∷◌, ◌++◌}
-use mathlib.Core.Option.{some}
 use native.Mathlib.Omega.{arith}
 use Rattle.wire.specs.Parse.{got}
 use Rattle.wire.specs.Number.{number_bytes, groups}
@@ -33,7 +33,7 @@ root_node = record {
 }
 
 abbrev root_store : Store
-root_store = over_base 1 (put by_number 1 (some root_node) (empty by_number))
+root_store = over_base 1 (put by_number 1 (Some root_node) (empty by_number))
 
 root-read : read_image root_image ≡ got root_store []
 unfolding store batches node meta kind time empty put set insert number_bytes groups

@@ -1,7 +1,7 @@
 -- The rows of a base in its image: the first place, and one row after the other.
 -- Assumes nothing.
+use Rattle.std.specs.Prelude.{None, Some}
 use mathlib.Core.Path.{◌≡◌, refl, ap, ◌∙◌}
-use mathlib.Core.Option.{none, some}
 use mathlib.Core.List.{List, ◌∷◌, ◌++◌, append_assoc}
 use Prim.Native.Nat.{ℕ, suc, ◌-◌}
 use native.Mathlib.Omega.{arith}
@@ -37,7 +37,7 @@ use Rattle.lines.specs.declared.rows.Line.{Line}
 -- ---- a base is its count and its rows
 
 pub base-bytes : (b : Base) → base.write b ≡ number_bytes (length b.rows) ++ rows_bytes inode node b.rows
-base-bytes b = ap (λ (t : List ℕ). number_bytes (length b.rows) ++ t) (chain-rows by_number inode node none b.rows)
+base-bytes b = ap (λ (t : List ℕ). number_bytes (length b.rows) ++ t) (chain-rows by_number inode node None b.rows)
 
 pub rows-first : {img : List ℕ} {r : Rows} {next : Cursor} → Answers img (number_read last_count) (At 0) 0 r.left next → r.at ≡ place_at next → FirstRows img r
 rows-first {img} {r} {next} a e = λ b end f w.
@@ -89,13 +89,13 @@ row-taken {img} {r} {e} {l} {i} {n} {start} {next} h a d =
 
 -- its attributes
 attr-taken : {img : List ℕ} {e : ℕ × M.Node} {l : List (ℕ × M.Node)} {i : ℕ} {n : Node} {next : Cursor} (a : FileAttr) → Taken img e l i n next
-    → ((m : List ℕ) → LinkIn m n.kind → some (attr_meant a) ≡ base_attr i (some (node_meant m n))) → line (attr_meant a) ≡ line_of e
+    → ((m : List ℕ) → LinkIn m n.kind → Some (attr_meant a) ≡ base_attr i (Some (node_meant m n))) → line (attr_meant a) ≡ line_of e
 attr-taken {img} {e} {n = n} a t h =
     ap line_if (h img t.link) ∙ ap (λ (i : ℕ). line_of (i, node_meant img n)) t.number ∙ ap (λ (m : M.Node). line_of (e.0, m)) t.meant
 
 pub next-line : {img old new : List ℕ} {rows : Rows} {i : ℕ} {n : Node} {start next : Cursor} {r : Line} (a : FileAttr)
     → Answers img (number_read edge) (At rows.at) 0 i start → ReadsNode img start n next
-    → ((m : List ℕ) → LinkIn m n.kind → some (attr_meant a) ≡ base_attr i (some (node_meant m n)))
+    → ((m : List ℕ) → LinkIn m n.kind → Some (attr_meant a) ≡ base_attr i (Some (node_meant m n)))
     → Put old 0 (line (attr_meant a)) r.end new → r.rest.at ≡ place_at next → r.rest.left ≡ rows.left - 1 → NextLine img rows old r new
 next-line {img} {old} {new} {rows} {r = r} a b d h p w k = record {
   left = k;

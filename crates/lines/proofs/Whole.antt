@@ -1,7 +1,7 @@
 -- What the program writes, piece by piece, is the whole listing.
 -- Assumes nothing.
+use Rattle.std.specs.Prelude.{None, Option, Some}
 use mathlib.Core.Path.{◌≡◌, refl, ap, ◌∙◌}
-use mathlib.Core.Option.{Option, none, some}
 use mathlib.Core.List.{List, [], ◌∷◌, ◌++◌}
 use mathlib.Core.Bool.{Bool, true, false, ◌&&◌, cond}
 use Prim.Native.Nat.{ℕ, zero, suc, ◌+◌, ◌-◌, ◌/◌, ◌%◌, ◌≤◌}
@@ -39,11 +39,11 @@ line-short a =
     (omega (arith, digits-few 10 22 1 a.inode, digits-few 8 22 4 a.perm, digits-few 10 22 1 a.links, digits-few 10 22 1 a.size))
 
 pub line-of-short : (e : ℕ × M.Node) → length (line_of e) ≤ longest
-line-of-short e = go (base_attr e.0 (some e.1))
+line-of-short e = go (base_attr e.0 (Some e.1))
   where
     go : (o : Option FileAttr) → length (line_if o) ≤ longest
-    go none = omega arith
-    go (some a) = line-short a
+    go None = omega arith
+    go (Some a) = line-short a
 
 -- ---- the pieces
 

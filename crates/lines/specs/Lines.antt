@@ -1,8 +1,7 @@
 -- Document 01: "The listing program reads an image from standard input and writes the line `INODE T MODE LINKS SIZE`, then the attributes of
 -- each snapshot inode, rising: decimal inode, letter (d - l p c b s by kind), permission in octal with at least four digits, decimal links,
 -- decimal size; or only `refused N`."
-use Rattle.std.proofs.Math.Option.{Option, none, some}
-use Rattle.std.specs.Prelude.{List, [], ◌∷◌, ◌++◌, ℕ}
+use Rattle.std.specs.Prelude.{List, [], ◌∷◌, ◌++◌, ℕ, None, Option, Some}
 use Rattle.image.specs.Meaning.{Node, Store}
 use Rattle.image.specs.Letters.{letter}
 use Rattle.rules.specs.Initial.{usual}
@@ -41,11 +40,11 @@ refusal n = (0x72 ∷ 0x65 ∷ 0x66 ∷ 0x75 ∷ 0x73 ∷ 0x65 ∷ 0x64 ∷ spac
 
 -- "the attributes of each snapshot inode": a snapshot is a base alone, so they are those of its node
 abbrev pub line_if : Option FileAttr → List ℕ
-line_if none = []
-line_if (some a) = line a
+line_if None = []
+line_if (Some a) = line a
 
 abbrev pub line_of : ℕ × Node → List ℕ
-line_of e = line_if (base_attr e.0 (some e.1))
+line_of e = line_if (base_attr e.0 (Some e.1))
 
 -- "rising": the rows of a base rise by inode
 unfoldable pub lines_of : List (ℕ × Node) → List ℕ

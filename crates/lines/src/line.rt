@@ -9,7 +9,7 @@ ghost use Rattle.lines.specs.Lines.{heading, line, refusal};
 use crate::digit::{put_decimal, put_octal};
 use attrs::attr::type_row;
 use attrs::node::{FileAttr, FileType};
-use image::kind::{Letter, type_letter};
+use image::kind::type_letter;
 use wire::put::{put_byte, put_bytes};
 
 // Writes the heading.
@@ -25,8 +25,8 @@ fn letter_of(file_type: FileType) -> u8
 {
     let found = type_letter(type_row(file_type) as u64);
     match found {
-        Letter::Of(byte) => byte,
-        Letter::NoKind => b'?',
+        Some(byte) => byte,
+        None => b'?',
     }
 }
 

@@ -1,16 +1,16 @@
 -- How a list by name is looked through, row by row.
 -- Assumes nothing.
+use Rattle.std.specs.Prelude.{None, Option, Some}
 use mathlib.Core.Path.{◌≡◌, refl, sym, ap, ◌∙◌, subst}
 use mathlib.Core.List.{List, [], ◌∷◌}
-use mathlib.Core.Option.{Option, none, some}
 use Prim.Native.Nat.{ℕ, zero, suc, ◌-◌, ◌≤◌, ◌<◌}
 use native.Mathlib.Omega.{arith}
 use lib.ListN.{drop}
 use Rattle.wire.specs.declared.cursor.Fault.{Fault}
 use Rattle.wire.specs.declared.cursor.Cursor.{Cursor}
 use Rattle.wire.specs.declared.cursor.Cursor.TheVariants.{At, Stop}
-use Rattle.wire.specs.declared.order.Ordering.{Ordering}
-use Rattle.wire.specs.declared.order.Ordering.TheVariants.{Less, Equal, Greater}
+use Rattle.std.specs.declared.cmp.Ordering.{Ordering}
+use Rattle.std.specs.declared.cmp.Ordering.TheVariants.{Less, Equal, Greater}
 use Rattle.wire.specs.Parse.{Parsed, got, bind, never-got, bind_inv}
 use Rattle.wire.specs.Number.{number_read}
 use Rattle.wire.specs.Text.{text-read}
@@ -39,21 +39,21 @@ use Rattle.image.proofs.OneForm.{name-one, under-one}
 
 module _ (u : U.Under) where
   mapped-is : (o : Option (Map by_bytes (UnderName u))) (q : List ℕ) {m : Map by_bytes (UnderName u)} {r : List ℕ}
-      → mapped by_bytes name (under u) last_count refl o q ≡ got m r → o ≡ some m
-  mapped-is none q e = never-got e
-  mapped-is (some x) q e = cc
+      → mapped by_bytes name (under u) last_count refl o q ≡ got m r → o ≡ Some m
+  mapped-is None q e = never-got e
+  mapped-is (Some x) q e = cc
 
   counted : (s : List ℕ) {m : Map by_bytes (UnderName u)} {r : List ℕ} → (by_name u).read s ≡ got m r
-      → (c : ℕ) × (t : List ℕ) × (number_read last_count s ≡ got c t) × ((q : List ℕ) × (rows_from by_bytes name (under u) c none t ≡ got m.rows q))
+      → (c : ℕ) × (t : List ℕ) × (number_read last_count s ≡ got c t) × ((q : List ℕ) × (rows_from by_bytes name (under u) c None t ≡ got m.rows q))
   unfolding rising-read
   counted s {m} d =
       let i = bind_inv ((rows by_bytes name (under u) last_count refl).read s) (λ l t. mapped by_bytes name (under u) last_count refl (as_map by_bytes l) t) d in
-      let j = bind_inv (number_read last_count s) (λ c t. rows_from by_bytes name (under u) c none t) i.2 in
+      let j = bind_inv (number_read last_count s) (λ c t. rows_from by_bytes name (under u) c None t) i.2 in
       let e : m.rows ≡ i.0 = rows-as_map by_bytes i.0 m (mapped-is (as_map by_bytes i.0) i.1 i.3) in
       (j.0, j.1, j.2, (i.1, j.3 ∙ ap (λ (l : List (Text × UnderName u)). got l i.1) (sym e)))
 
 module _ {img : List ℕ} {u : U.Under} {p : Part} {end n : ℕ} {next : Cursor} (h : Listed img u p end) (a : Answers img (number_read last_count) (At p.start) 0 n next) where
-  pub rows-listed : {first : ℕ} → next ≡ At first → Standing img u none first n (list_at img u p).rows
+  pub rows-listed : {first : ℕ} → next ≡ At first → Standing img u None first n (list_at img u p).rows
   rows-listed {first} e =
       let b = rw e at a in
       let k = counted u (drop p.start img) h.is in
@@ -70,7 +70,7 @@ module _ {img : List ℕ} {u : U.Under} {p : Part} {end n : ℕ} {next : Cursor}
 pub record Taken (img : List ℕ) (u : U.Under) (left : ℕ) (rows : List (Text × UnderName u)) (r : RowRead) (value : UnderName u) : Type 0 where
   pub others : List (Text × UnderName u)
   pub are : rows ≡ (row_name img r, value) ∷ others
-  pub standing : Standing img u (some (row_name img r)) r.next (left - 1) others
+  pub standing : Standing img u (Some (row_name img r)) r.next (left - 1) others
   pub rise : Under by_bytes (row_name img r) others
 
 module _ {img : List ℕ} {u : U.Under} where
@@ -91,12 +91,12 @@ module _ {img : List ℕ} {u : U.Under} where
       go : (n : ℕ) → 0 < n → rows_from by_bytes name (under u) n prev (drop here img) ≡ got l w.rest → RowAt img u here
       go zero h d = absurd (omega arith)
       go (suc n) h d =
-          let i = bind_inv ((row by_bytes name (under u) prev).read (drop here img)) (λ a t. bind (rows_from by_bytes name (under u) n (some a.0) t) (λ m q. got (a ∷ m) q)) d in
+          let i = bind_inv ((row by_bytes name (under u) prev).read (drop here img)) (λ a t. bind (rows_from by_bytes name (under u) n (Some a.0) t) (λ m q. got (a ∷ m) q)) d in
           (prev, i.0, i.1, i.2)
 
   module _ {here : ℕ} {r : RowRead} (g : ReadsRow img u here r) where
     row_first : (prev : Option Text) (n : ℕ) (e : Text × UnderName u) (t : List ℕ) (others : List (Text × UnderName u)) (q : List ℕ) → (row by_bytes name (under u) prev).read (drop here img) ≡ got e t
-        → rows_from by_bytes name (under u) n (some e.0) t ≡ got others q → Taken img u (suc n) (e ∷ others) r g.value
+        → rows_from by_bytes name (under u) n (Some e.0) t ≡ got others q → Taken img u (suc n) (e ∷ others) r g.value
     row_first prev n e t others q d b =
         let a = apart by_bytes name (under u) img [] prev (drop here img) d in
         let ek : e.0 ≡ (row_name img r) = cc (a.keyed, g.named) in
@@ -104,14 +104,14 @@ module _ {img : List ℕ} {u : U.Under} where
         let v : (under u).read (drop r.under img) ≡ got e.1 t = rw em at a.valued in
         let ev : e.1 ≡ g.value = cc g.held in
         let et : t ≡ drop r.next img = cc g.held in
-        let k : rows_from by_bytes name (under u) n (some (row_name img r)) (drop r.next img) ≡ got others q = rw (ek, et) at b in
-        let f = chain-forth (row by_bytes name (under u)) (onto by_bytes name (under u)) (row-one by_bytes name (under u) name-one (under-one u)) n (some (row_name img r)) (drop r.next img) others q k in
+        let k : rows_from by_bytes name (under u) n (Some (row_name img r)) (drop r.next img) ≡ got others q = rw (ek, et) at b in
+        let f = chain-forth (row by_bytes name (under u)) (onto by_bytes name (under u)) (row-one by_bytes name (under u) name-one (under-one u)) n (Some (row_name img r)) (drop r.next img) others q k in
         let z : suc n - 1 ≡ n = omega arith in
         record {
           others = others;
           are = λ x. (ek x, ev x) ∷ others;
           standing = record { rest = q; read = rw z k; within = g.within };
-          rise = (all-rising by_bytes name (under u) (some (row_name img r)) others f.1.1).0;
+          rise = (all-rising by_bytes name (under u) (Some (row_name img r)) others f.1.1).0;
         }
 
     pub row-taken : {prev : Option Text} {left : ℕ} {l : List (Text × UnderName u)} → 0 < left → Standing img u prev here left l → Taken img u left l r g.value
@@ -120,8 +120,8 @@ module _ {img : List ℕ} {u : U.Under} where
         go : (n : ℕ) → 0 < n → rows_from by_bytes name (under u) n prev (drop here img) ≡ got l w.rest → Taken img u n l r g.value
         go zero h d = absurd (omega arith)
         go (suc n) h d =
-            let i = bind_inv ((row by_bytes name (under u) prev).read (drop here img)) (λ a t. bind (rows_from by_bytes name (under u) n (some a.0) t) (λ m q. got (a ∷ m) q)) d in
-            let j = bind_inv (rows_from by_bytes name (under u) n (some i.0.0) i.1) (λ m q. got (i.0 ∷ m) q) i.3 in
+            let i = bind_inv ((row by_bytes name (under u) prev).read (drop here img)) (λ a t. bind (rows_from by_bytes name (under u) n (Some a.0) t) (λ m q. got (a ∷ m) q)) d in
+            let j = bind_inv (rows_from by_bytes name (under u) n (Some i.0.0) i.1) (λ m q. got (i.0 ∷ m) q) i.3 in
             let e : i.0 ∷ j.0 ≡ l = cc j.3 in
             subst (λ (l : List (Text × UnderName u)). Taken img u (suc n) l r g.value) e (row_first prev n i.0 i.1 j.0 j.1 i.2 j.2)
 
@@ -145,15 +145,15 @@ pub record Seeks (img : List ℕ) (u : U.Under) (k : Text) (here left : ℕ) (o 
 module _ {img : List ℕ} {u : U.Under} {k : Text} where
   pub seeks-list : (p : Part) {r : Rows} → ListRows img u p r → Seeks img u k r.first r.count (get by_bytes k (list_at img u p))
   unfolding get
-  seeks-list p h = record { prev = none; rows = (list_at img u p).rows; standing = h; has = refl }
+  seeks-list p h = record { prev = None; rows = (list_at img u p).rows; standing = h; has = refl }
 
   module _ {here left : ℕ} {o : Option (UnderName u)} (w : Seeks img u k here left o) where
-    pub seeks-end : left ≤ 0 → o ≡ none
+    pub seeks-end : left ≤ 0 → o ≡ None
     unfolding lookup
     seeks-end h = go left h w.rows w.standing.read w.has
       where
         go : (n : ℕ) → n ≤ 0 → (l : List (Text × UnderName u)) → rows_from by_bytes name (under u) n w.prev (drop here img) ≡ got l w.standing.rest → lookup by_bytes k l ≡ o
-            → o ≡ none
+            → o ≡ None
         go (suc n) h l d e = absurd (omega arith)
         go zero h [] d e = sym e
         go zero h (x ∷ l) d e = cc
@@ -168,20 +168,20 @@ module _ {img : List ℕ} {u : U.Under} {k : Text} where
       pub seeks-on : by_bytes.cmp (row_name img r) k ≡ Less → Seeks img u k r.next (left - 1) o
       unfolding lookup
       seeks-on e = record {
-        prev = some (row_name img r);
+        prev = Some (row_name img r);
         rows = taken.others;
         standing = taken.standing;
-        has = sym (passes (row_name img r) k (some g.value) (lookup by_bytes k taken.others) e) ∙ has-row;
+        has = sym (passes (row_name img r) k (Some g.value) (lookup by_bytes k taken.others) e) ∙ has-row;
       }
 
-      pub seeks-here : by_bytes.cmp (row_name img r) k ≡ Equal → o ≡ some g.value
+      pub seeks-here : by_bytes.cmp (row_name img r) k ≡ Equal → o ≡ Some g.value
       unfolding lookup
       seeks-here e =
           let z : (row_name img r) ≡ k = by_bytes.same (row_name img r) k e in
           let d : by_bytes.cmp k (row_name img r) ≡ Equal = rw z (by_bytes.self k) in
           sym (rw d at has-row)
 
-      pub seeks-past : by_bytes.cmp (row_name img r) k ≡ Greater → o ≡ none
+      pub seeks-past : by_bytes.cmp (row_name img r) k ≡ Greater → o ≡ None
       seeks-past e =
           let d : by_bytes.cmp k (row_name img r) ≡ Less = by_bytes.flip (row_name img r) k e in
           sym has-row ∙ lookup-under by_bytes k (((row_name img r), g.value) ∷ taken.others) (d, under-below by_bytes k (row_name img r) taken.others d taken.rise)
@@ -189,13 +189,13 @@ module _ {img : List ℕ} {u : U.Under} {k : Text} where
 -- ---- what a place holds
 
 module _ {A : Type 0} (img : List ℕ) (p : List ℕ → Parsed A) where
-  pub held_none : (o : Option A) → Holds img p none o → o ≡ none
-  held_none none h = refl
-  held_none (some a) h = absurd h
+  pub held_none : (o : Option A) → Holds img p None o → o ≡ None
+  held_none None h = refl
+  held_none (Some a) h = absurd h
 
-  pub held-some : (n : ℕ) (o : Option A) → Holds img p (some n) o → (a : A) × (r : List ℕ) × (o ≡ some a) × (p (drop n img) ≡ got a r)
-  held-some n none h = absurd h
-  held-some n (some a) h = (a, h.0, refl, h.1)
+  pub held-some : (n : ℕ) (o : Option A) → Holds img p (Some n) o → (a : A) × (r : List ℕ) × (o ≡ Some a) × (p (drop n img) ≡ got a r)
+  held-some n None h = absurd h
+  held-some n (Some a) h = (a, h.0, refl, h.1)
 
 -- what was read there is what it holds
 pub read_same : {A : Type 0} {img : List ℕ} {p : List ℕ → Parsed A} {n : ℕ} {a b : A} {r : List ℕ} {next : Cursor} → p (drop n img) ≡ got a r → Reads img p (At n) b next → b ≡ a

@@ -1,6 +1,6 @@
 -- The layers of a stack as a child lookup meets them: the base is layer 0, and record i is layer i + 1.
-use Rattle.std.specs.Prelude.{◌≡◌, List, ℕ, zero, suc}
-use Rattle.std.proofs.Math.Option.{Option, none, some}
+use Rattle.nodes.specs.declared.part.Part.{Part}
+use Rattle.std.specs.Prelude.{◌≡◌, List, ℕ, zero, suc, None, Option, Some}
 use Rattle.wire.specs.Orders.{by_bytes}
 use Rattle.wire.specs.Maps.{get, meet}
 use Rattle.survey.specs.declared.batch.InodeLayerStack.{InodeLayerStack}
@@ -8,24 +8,22 @@ use Rattle.image.specs.declared.name.Under.TheVariants as U
 use Rattle.image.specs.Meaning.{Text}
 use Rattle.rules.specs.Reads.{child}
 use Rattle.nodes.specs.Listed.{list_at}
-use Rattle.nodes.specs.declared.option.OptionPart.{OptionPart}
-use Rattle.nodes.specs.declared.option.OptionPart.TheVariants as P
 use Rattle.stack.specs.Stacks.{shown_under}
 use Rattle.lookup.specs.Search.{IsList}
 
 module _ (img : List ℕ) (s : InodeLayerStack) where
   -- the child that the lowest n layers show
   abbrev pub child_under : Text → ℕ → Option ℕ
-  child_under name zero = none
+  child_under name zero = None
   child_under name (suc n) = shown_under (child name) img s n
 
   -- "removed name, none; else added name, its inode; else go on below", "Last, a base directory's entries"
-  abbrev pub EntriesAt : Text → ℕ → OptionPart → Type 0
-  EntriesAt name layer P.None = shown_under (child name) img s layer ≡ none
-  EntriesAt name layer (P.Some p) =
+  abbrev pub EntriesAt : Text → ℕ → Option Part → Type 0
+  EntriesAt name layer None = shown_under (child name) img s layer ≡ None
+  EntriesAt name layer (Some p) =
       IsList img U.Inode p
-      × (shown_under (child name) img s layer ≡ meet (λ inode x. some inode) (get by_bytes name (list_at img U.Inode p)) (child_under name layer))
+      × (shown_under (child name) img s layer ≡ meet (λ inode x. Some inode) (get by_bytes name (list_at img U.Inode p)) (child_under name layer))
 
   -- the same of the base, whatever the name
-  abbrev pub BaseEntries : OptionPart → Type 0
+  abbrev pub BaseEntries : Option Part → Type 0
   BaseEntries r = (name : Text) → EntriesAt name 0 r

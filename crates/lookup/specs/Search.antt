@@ -1,6 +1,5 @@
 -- Lists by name, looked through where they stand.
-use Rattle.std.specs.Prelude.{◌≡◌, List, ℕ, ◌≤◌, length, drop}
-use Rattle.std.proofs.Math.Option.{Option, none}
+use Rattle.std.specs.Prelude.{◌≡◌, List, ℕ, ◌≤◌, length, drop, None, Option}
 use Rattle.wire.specs.Parse.{got}
 use Rattle.wire.specs.Orders.{by_bytes}
 use Rattle.wire.specs.Maps.{get}
@@ -33,7 +32,7 @@ module _ (img : List ℕ) (u : Under) where
 
   -- the rows of a list stand after its count
   abbrev pub ListRows : Part → Rows → Type 0
-  ListRows p r = Standing none r.first r.count (list_at img u p).rows
+  ListRows p r = Standing None r.first r.count (list_at img u p).rows
 
   -- a row stands at a place
   abbrev pub RowAt : ℕ → Type 0

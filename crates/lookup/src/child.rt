@@ -3,24 +3,23 @@ ghost use Rattle.std.specs.Prelude.{◌≤◌, ◌≡◌};
 ghost use Rattle.rules.specs.Initial.{usual};
 ghost use Rattle.rules.specs.Reads.{child};
 ghost use Rattle.rules.specs.ReadCalls.{lookup_child};
-ghost use Rattle.nodes.specs.Options.{number_of};
 ghost use Rattle.stack.specs.Stacks.{Stacked, shown};
 ghost use Rattle.layers.specs.Answered.{inode_answered};
 ghost use Rattle.lookup.specs.Children.{EntriesAt, BaseEntries};
 
+use nodes::part::Part;
+use std::cmp::Ordering;
 use crate::search::{find_name, read_row, rows_of};
 use deltas::delta::{EntryDelta, NodeDelta};
 use image::name::Under;
 use layers::answer::InodeAnswer;
 use nodes::node::NodeKind;
-use nodes::option::{OptionPart, OptionU64};
-use passes::inode::Place;
 use stack::name::open_named;
-use stack::stack::{OptionNode, base_node, record_at};
+use stack::stack::{base_node, record_at};
 use survey::batch::InodeLayerStack;
 use wire::cursor::Cursor;
 use wire::number::read_number;
-use wire::order::{Ordering, compare_part};
+use wire::order::compare_part;
 
 // The inode that a name leads to in a directory.
 pub fn lookup_child(img: &[u8], ino: u64, name: &[u8]) -> InodeAnswer
@@ -34,20 +33,20 @@ pub fn lookup_child(img: &[u8], ino: u64, name: &[u8]) -> InodeAnswer
     let stack = opened.stack;
     let child = child_in(img, stack, name);
     match child {
-        OptionU64::Some(inode) => InodeAnswer::Inode(inode),
-        OptionU64::None => InodeAnswer::None,
+        Some(inode) => InodeAnswer::Inode(inode),
+        None => InodeAnswer::None,
     }
 }
 
 // From the top: the first layer that names the child, or removes it, decides. The base is layer 0.
-fn child_in(img: &[u8], stack: InodeLayerStack, name: &[u8]) -> OptionU64
+fn child_in(img: &[u8], stack: InodeLayerStack, name: &[u8]) -> Option<u64>
     requires { Stacked img.now stack }
-    ensures { number_of result ≡ shown (child name.now) img.now stack }
+    ensures { result ≡ shown (child name.now) img.now stack }
 {
-    let mut found = OptionU64::None;
+    let mut found = None;
     'layers: for layer in (0..=stack.count).rev() {
         let names = entries_at(img, stack, layer, name);
-        let OptionPart::Some(list) = names else {
+        let Some(list) = names else {
             break 'layers;
         };
         let rows = rows_of(img, list, Under::Inode);
@@ -58,7 +57,7 @@ fn child_in(img: &[u8], stack: InodeLayerStack, name: &[u8]) -> OptionU64
                 Ordering::Less => {}
                 Ordering::Equal => {
                     let inode = read_number(img, Cursor::At(row.under), 0xFFFF_FFFF_FFFF_FFFF);
-                    found = OptionU64::Some(inode.value);
+                    found = Some(inode.value);
                     break 'layers;
                 }
                 Ordering::Greater => break,
@@ -70,7 +69,7 @@ fn child_in(img: &[u8], stack: InodeLayerStack, name: &[u8]) -> OptionU64
 }
 
 // The entries that a layer adds, or those of the base. None, where the layer decides that there is no such child.
-fn entries_at(img: &[u8], stack: InodeLayerStack, layer: usize, name: &[u8]) -> OptionPart
+fn entries_at(img: &[u8], stack: InodeLayerStack, layer: usize, name: &[u8]) -> Option<Part>
     requires { Stacked img.now stack × (layer ≤ stack.count) }
     ensures { EntriesAt img.now stack name.now layer result }
 {
@@ -79,32 +78,32 @@ fn entries_at(img: &[u8], stack: InodeLayerStack, layer: usize, name: &[u8]) -> 
     }
     let delta = record_at(img, stack, layer - 1);
     let EntryDelta::Node(node) = delta else {
-        return OptionPart::None;
+        return None;
     };
     let NodeDelta::Directory(directory) = node else {
-        return OptionPart::None;
+        return None;
     };
     let added = directory.added;
     let removed = directory.removed;
     let place = find_name(img, removed, Under::Nothing, name);
     match place {
-        Place::At(_) => OptionPart::None,
-        Place::Nowhere => OptionPart::Some(added),
+        Some(_) => None,
+        None => Some(added),
     }
 }
 
 // The entries of a base directory.
-pub fn base_entries(img: &[u8], stack: InodeLayerStack) -> OptionPart
+pub fn base_entries(img: &[u8], stack: InodeLayerStack) -> Option<Part>
     requires { Stacked img.now stack }
     ensures { BaseEntries img.now stack result }
 {
     let base = base_node(img, stack);
-    let OptionNode::Some(node) = base else {
-        return OptionPart::None;
+    let Some(node) = base else {
+        return None;
     };
     let kind = node.kind;
     match kind {
-        NodeKind::Directory { parent: _, entries } => OptionPart::Some(entries),
-        _ => OptionPart::None,
+        NodeKind::Directory { parent: _, entries } => Some(entries),
+        _ => None,
     }
 }

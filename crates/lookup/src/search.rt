@@ -1,13 +1,12 @@
 // Looking for a name in a list by name, where the list stands.
-ghost use Rattle.passes.specs.Held.{place_of};
 ghost use Rattle.lookup.specs.Search.{IsList, ListRows, RowAt, ReadsRow, Finds};
 
+use std::cmp::Ordering;
 use image::name::{Under, pass_under};
 use nodes::part::Part;
-use passes::inode::Place;
 use wire::cursor::{Cursor, place_at};
 use wire::number::read_number;
-use wire::order::{Ordering, compare_part};
+use wire::order::compare_part;
 use wire::text::read_text;
 
 // Rows of a list: the place of the first, and how many there are.
@@ -59,9 +58,9 @@ pub fn read_row(img: &[u8], at: usize, what: Under) -> RowRead
 }
 
 // The place of what stands under a name. Names rise, so one that is greater ends the search.
-pub fn find_name(img: &[u8], list: Part, what: Under, name: &[u8]) -> Place
+pub fn find_name(img: &[u8], list: Part, what: Under, name: &[u8]) -> Option<usize>
     requires { IsList img.now what list }
-    ensures { Finds img.now what list name.now (place_of result) }
+    ensures { Finds img.now what list name.now result }
 {
     let rows = rows_of(img, list, what);
     let mut here = rows.first;
@@ -69,10 +68,10 @@ pub fn find_name(img: &[u8], list: Part, what: Under, name: &[u8]) -> Place
         let row = read_row(img, here, what);
         match compare_part(img, row.start, row.length, name) {
             Ordering::Less => {}
-            Ordering::Equal => return Place::At(row.under),
-            Ordering::Greater => return Place::Nowhere,
+            Ordering::Equal => return Some(row.under),
+            Ordering::Greater => return None,
         }
         here = row.next;
     }
-    Place::Nowhere
+    None
 }

@@ -1,8 +1,8 @@
 -- One list of attribute changes put over another, row by row.
 -- Assumes nothing.
+use Rattle.std.specs.Prelude.{None, Option, Some}
 use mathlib.Core.Path.{◌≡◌, refl, sym, ap, ◌∙◌}
 use mathlib.Core.List.{List, [], ◌∷◌, ◌++◌, append_assoc}
-use mathlib.Core.Option.{Option, none, some}
 use Prim.Native.Nat.{ℕ, suc}
 use native.Mathlib.Omega.{arith}
 use lib.ListN.{length, drop}
@@ -19,8 +19,6 @@ use Rattle.image.specs.FieldLayout.{name, value}
 use Rattle.image.specs.RecordLayout.{changes}
 use Rattle.nodes.specs.Listed.{list_at, list_of, Listed, ListedIf}
 use Rattle.nodes.specs.declared.part.Part.{Part}
-use Rattle.nodes.specs.declared.option.OptionPart.{OptionPart}
-use Rattle.nodes.specs.declared.option.OptionPart.TheVariants as P
 use Rattle.writers.proofs.Writing.{list_written}
 use Rattle.records.proofs.Records.{list-bytes}
 use Rattle.rules.specs.Changes.{merge_changes}
@@ -37,7 +35,7 @@ module _ {K A : Type 0} where
   -- rows that are all there afterwards
   abbrev somes : List (K × A) → List (K × Option A)
   somes [] = []
-  somes (e ∷ l) = (e.0, some e.1) ∷ somes l
+  somes (e ∷ l) = (e.0, Some e.1) ∷ somes l
 
 module _ {K A : Type 0} (O : Order K) where
   under-somes : (k : K) (l : List (K × A)) → Under O k l → Under O k (somes l)
@@ -48,10 +46,10 @@ module _ {K A : Type 0} (O : Order K) where
   rising-somes [] r = tt
   rising-somes (e ∷ l) r = (under-somes e.0 l r.0, rising-somes l r.1)
 
-  over-somes : (l : List (K × A)) (m : Map O A) → over O (λ k c o. some c) l m ≡ put_all O (somes l) m
+  over-somes : (l : List (K × A)) (m : Map O A) → over O (λ k c o. Some c) l m ≡ put_all O (somes l) m
   unfolding over
   over-somes [] m = refl
-  over-somes (e ∷ l) m = ap (put O e.0 (some e.1)) (over-somes l m)
+  over-somes (e ∷ l) m = ap (put O e.0 (Some e.1)) (over-somes l m)
 
   melded-edits : (l m : List (K × A)) → edit_rows O (somes l) m ≡ melded O l m
   unfolding edit_rows melded
@@ -59,7 +57,7 @@ module _ {K A : Type 0} (O : Order K) where
   melded-edits (e ∷ l) m = ap (λ (x : List (K × A)). rows_below O e.0 m ++ (e ∷ x)) (melded-edits l (rows_above O e.0 m))
 
   -- one list put over another
-  pub merge-rows : (new old : Map O A) → (merge O (λ k c o. some c) new old).rows ≡ melded O new.rows old.rows
+  pub merge-rows : (new old : Map O A) → (merge O (λ k c o. Some c) new old).rows ≡ melded O new.rows old.rows
   unfolding merge
   merge-rows new old =
       ap (λ (m : Map O A). m.rows) (over-somes new.rows old)
@@ -87,23 +85,23 @@ list-rows {bytes} {p} {end} h =
     let t = drop end bytes in
     let f = changes-one.forth (drop p.start bytes) m t h.is in
     let e : drop p.start bytes ≡ number_bytes (length l) ++ (rows_bytes name (maybe value) l ++ t) =
-    f.0 ∙ ap (λ (x : List ℕ). (number_bytes (length l) ++ x) ++ t) (chain-rows by_bytes name (maybe value) none l) ∙ append_assoc (number_bytes (length l)) (rows_bytes name (maybe value) l) t in
+    f.0 ∙ ap (λ (x : List ℕ). (number_bytes (length l) ++ x) ++ t) (chain-rows by_bytes name (maybe value) None l) ∙ append_assoc (number_bytes (length l)) (rows_bytes name (maybe value) l) t in
     ap (λ (s : List ℕ). or_end (number_read last_count s) rows_read) e
     ∙ rw ((number_to last_count refl).back (length l) (rows_bytes name (maybe value) l ++ t) (omega (arith, f.1.count))) (rows_back l t f.1.each)
 
 merged-written : {img given : List ℕ} {n o : Part} {x y : ℕ} → Listed given U.Change n x → Listed img U.Change o y
-    → merged_bytes img given n.start o.start ≡ changes.write (merge by_bytes (λ name change o. some change) (list_at given U.Change n) (list_at img U.Change o))
+    → merged_bytes img given n.start o.start ≡ changes.write (merge by_bytes (λ name change o. Some change) (list_at given U.Change n) (list_at img U.Change o))
 merged-written {img} {given} {n} {o} h k =
     let new = list_at given U.Change n in
     let old = list_at img U.Change o in
-    let both = merge by_bytes (λ name change o. some change) new old in
+    let both = merge by_bytes (λ name change o. Some change) new old in
     let e : merged_rows img given n.start o.start ≡ both.rows = (λ j. melded by_bytes (list-rows h j) (list-rows k j)) ∙ sym (merge-rows by_bytes new old) in
     ap (λ (l : List ChangeRow). number_bytes (length l) ++ rows_bytes name (maybe value) l) e
-    ∙ ap (λ (t : List ℕ). number_bytes (length both.rows) ++ t) (sym (chain-rows by_bytes name (maybe value) none both.rows))
+    ∙ ap (λ (t : List ℕ). number_bytes (length both.rows) ++ t) (sym (chain-rows by_bytes name (maybe value) None both.rows))
 
 -- "attribute by attribute"
-pub changes-written : (img given : List ℕ) (new old : OptionPart) (x y : ℕ) → ListedIf given U.Change new x → ListedIf img U.Change old y
+pub changes-written : (img given : List ℕ) (new old : Option Part) (x y : ℕ) → ListedIf given U.Change new x → ListedIf img U.Change old y
     → changes_anew img given new old ≡ opt_write changes (merge_changes (list_of given U.Change new) (list_of img U.Change old))
-changes-written img given (P.Some n) (P.Some o) x y h k = merged-written h k
-changes-written img given (P.Some n) P.None x y h k = list_written U.Change h
-changes-written img given P.None old x y h k = list-bytes img y old k
+changes-written img given (Some n) (Some o) x y h k = merged-written h k
+changes-written img given (Some n) None x y h k = list_written U.Change h
+changes-written img given None old x y h k = list-bytes img y old k

@@ -1,6 +1,6 @@
 -- Two lists of attribute changes merged. Document 01: "attribute by attribute".
-use Rattle.std.specs.Prelude.{◌≡◌, true, false, cond, List, [], ◌∷◌, ◌++◌, ℕ, zero, suc, ◌+◌, ◌≤◌, ◌<◌, length, drop}
-use Rattle.std.proofs.Math.Option.{Option}
+use Rattle.nodes.specs.declared.part.Part.{Part}
+use Rattle.std.specs.Prelude.{◌≡◌, true, false, cond, List, [], ◌∷◌, ◌++◌, ℕ, zero, suc, ◌+◌, ◌≤◌, ◌<◌, length, drop, None, Option, Some}
 use Rattle.wire.specs.Parse.{Parsed, fault, got}
 use Rattle.wire.specs.Order.{Order}
 use Rattle.wire.specs.Orders.{by_bytes}
@@ -12,8 +12,6 @@ use Rattle.image.specs.Meaning.{Text}
 use Rattle.image.specs.Masks.{maybe}
 use Rattle.image.specs.FieldLayout.{name, value}
 use Rattle.nodes.specs.Options.{text_at}
-use Rattle.nodes.specs.declared.option.OptionPart.{OptionPart}
-use Rattle.nodes.specs.declared.option.OptionPart.TheVariants as P
 use Rattle.records.specs.Records.{list_bytes}
 use Rattle.change.specs.Sections.{between}
 use Rattle.change.specs.Cuts.{rows_below, rows_above, rows_bytes}
@@ -117,7 +115,7 @@ module _ (img given : List ℕ) where
   merged_bytes new old = number_bytes (length (merged_rows new old)) ++ rows_bytes name (maybe value) (merged_rows new old)
 
   -- the attribute changes of both, if one has any
-  abbrev pub changes_anew : OptionPart → OptionPart → List ℕ
-  changes_anew (P.Some n) (P.Some o) = merged_bytes n.start o.start
-  changes_anew (P.Some n) P.None = text_at given n
-  changes_anew P.None o = list_bytes img o
+  abbrev pub changes_anew : Option Part → Option Part → List ℕ
+  changes_anew (Some n) (Some o) = merged_bytes n.start o.start
+  changes_anew (Some n) None = text_at given n
+  changes_anew None o = list_bytes img o

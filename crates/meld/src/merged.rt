@@ -4,12 +4,13 @@ ghost use Rattle.wire.specs.Lists.{last_count};
 ghost use Rattle.wire.specs.Put.{Put};
 ghost use Rattle.meld.specs.Merged.{Leads, TurnIs, own_turn, turn_bytes, PutsRows, merged_bytes, changes_anew};
 
+use nodes::part::Part;
+use std::cmp::Ordering;
 use crate::row::{Left, Row, first_row, rows_at};
 use change::copy::put_between;
-use nodes::option::OptionPart;
 use records::write_node::put_list_if;
 use wire::number::put_number;
-use wire::order::{Ordering, compare_part};
+use wire::order::compare_part;
 use wire::part::part;
 use wire::put::put_part;
 
@@ -147,16 +148,16 @@ pub fn put_changes(
     at: usize,
     img: &[u8],
     given: &[u8],
-    new: OptionPart,
-    old: OptionPart,
+    new: Option<Part>,
+    old: Option<Part>,
 ) -> usize
     ensures { Put buf.old at (changes_anew img.now given.now new old) result buf.new }
 {
     match new {
-        OptionPart::Some(above) => match old {
-            OptionPart::Some(below) => put_merged(buf, at, img, given, above.start, below.start),
-            OptionPart::None => put_part(buf, at, given, above.start, above.length),
+        Some(above) => match old {
+            Some(below) => put_merged(buf, at, img, given, above.start, below.start),
+            None => put_part(buf, at, given, above.start, above.length),
         },
-        OptionPart::None => put_list_if(buf, at, img, old),
+        None => put_list_if(buf, at, img, old),
     }
 }

@@ -1,7 +1,7 @@
 -- The list at a place, as a source, has the rows of the map that is read there.
 -- Assumes nothing.
+use Rattle.std.specs.Prelude.{None, Option, Some}
 use mathlib.Core.Path.{◌≡◌, refl, ◌∙◌}
-use mathlib.Core.Option.{Option, none, some}
 use mathlib.Core.List.{List, [], ◌∷◌, ◌++◌, map, append_assoc}
 use Prim.Native.Nat.{ℕ, ◌+◌}
 use lib.ListN.{length, drop}
@@ -53,15 +53,15 @@ module _ (img : List ℕ) (u : Under) where
   rows_are prev q [] t f d = refl
   rows_are prev q (e ∷ l) t f d =
       let w = name.write e.0 ++ (under u).write e.1 in
-      let r = rows_written (some e.0) l ++ t in
-      let whole : drop q img ≡ w ++ r = d ∙ append_assoc w (rows_written (some e.0) l) t in
-      rw (whole, (name then under u).back e r f.0, rows_are (some e.0) (q + length w) l t f.1 (on img q w r whole))
+      let r = rows_written (Some e.0) l ++ t in
+      let whole : drop q img ≡ w ++ r = d ∙ append_assoc w (rows_written (Some e.0) l) t in
+      rw (whole, (name then under u).back e r f.0, rows_are (Some e.0) (q + length w) l t f.1 (on img q w r whole))
 
   pub list-are : (p : ℕ) (m : Map by_bytes (UnderName u)) (r : List ℕ) → (by_name u).read (drop p img) ≡ got m r → list_rows img u p ≡ (source_of u p m).rows
   unfolding starts map_values
   list-are p m r e =
       let f = (by_name-one u).forth (drop p img) m r e in
       let n = number_bytes (length m.rows) in
-      let t = rows_written none m.rows ++ r in
-      let d : drop p img ≡ n ++ t = f.0 ∙ append_assoc n (rows_written none m.rows) r in
-      rw (d, number-back last_count refl (length m.rows) t f.1.0) (rows_are none (p + length n) m.rows r f.1.1 (on img p n t d))
+      let t = rows_written None m.rows ++ r in
+      let d : drop p img ≡ n ++ t = f.0 ∙ append_assoc n (rows_written None m.rows) r in
+      rw (d, number-back last_count refl (length m.rows) t f.1.0) (rows_are None (p + length n) m.rows r f.1.1 (on img p n t d))

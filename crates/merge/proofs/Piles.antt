@@ -1,13 +1,13 @@
 -- A pile of sources, one key at a time: the least key goes first, with what the changes of it make, and then the rest.
 -- Assumes nothing.
+use Rattle.std.specs.Prelude.{None, Option, Some}
 use mathlib.Core.Path.{◌≡◌, subst, refl, sym as inverse, ◌∙◌}
-use mathlib.Core.Option.{Option, none, some}
 use mathlib.Core.List.{List, [], ◌∷◌}
 use Prim.Native.Nat.{ℕ, ◌≤◌, ◌<◌}
 use native.Mathlib.Omega.{arith}
 use lib.ListN.{length}
-use Rattle.wire.specs.declared.order.Ordering.{Ordering}
-use Rattle.wire.specs.declared.order.Ordering.TheVariants.{Less, Equal, Greater}
+use Rattle.std.specs.declared.cmp.Ordering.{Ordering}
+use Rattle.std.specs.declared.cmp.Ordering.TheVariants.{Less, Equal, Greater}
 use Rattle.wire.specs.Order.{Order}
 use Rattle.wire.specs.Rows.{choose, lookup, set, Under, Rising}
 use Rattle.wire.specs.RowLaws.{lookup-set, set-rising, lookup-under, under-below, under-insert, under-remove, ext}
@@ -24,11 +24,11 @@ module _ {K : Type 0} (O : Order K) where
   low-less a b c h (same e) = less (rw e at h)
   low-less a b c h (less g) = less (O.trans a b c h g)
 
-  none-lower : (a : K) (o : Option K) → lower O (some a) o ≡ none → ⊥
-  none-lower a none h = let z : ◌≡◌ {A = ℕ} 0 1 = cc in omega arith
-  none-lower a (some b) h = go (O.cmp a b) h
+  none-lower : (a : K) (o : Option K) → lower O (Some a) o ≡ None → ⊥
+  none-lower a None h = let z : ◌≡◌ {A = ℕ} 0 1 = cc in omega arith
+  none-lower a (Some b) h = go (O.cmp a b) h
     where
-      go : (d : Ordering) → pick_key O d a b ≡ none → ⊥
+      go : (d : Ordering) → pick_key O d a b ≡ None → ⊥
       go Less h = let z : ◌≡◌ {A = ℕ} 0 1 = cc in omega arith
       go Equal h = let z : ◌≡◌ {A = ℕ} 0 1 = cc in omega arith
       go Greater h = let z : ◌≡◌ {A = ℕ} 0 1 = cc in omega arith
@@ -53,7 +53,7 @@ module _ {K : Type 0} (O : Order K) {C : Type 0} where
   lookup-pass j k [] n = refl
   lookup-pass j k (e ∷ l) n = go (O.cmp k e.0) refl
     where
-      other : (d : Ordering) → (d ≡ Equal → ⊥) → lookup O j l ≡ choose d (some e.1) (lookup O j l)
+      other : (d : Ordering) → (d ≡ Equal → ⊥) → lookup O j l ≡ choose d (Some e.1) (lookup O j l)
       other Less n = refl
       other Equal n = absurd (n refl)
       other Greater n = refl
@@ -70,7 +70,7 @@ module _ {K : Type 0} (O : Order K) {C : Type 0} where
   lookup_head k (e ∷ l) r (same h) = rw (h, O.self e.0)
   lookup_head k (e ∷ l) r (less h) = rw h (lookup-under O k l (under-below O k e.0 l h r.0))
 
-  from-none : (ss : List (List (K × C))) → least_key O ss ≡ none → (k : K) → FromAll k ss
+  from-none : (ss : List (List (K × C))) → least_key O ss ≡ None → (k : K) → FromAll k ss
   unfolding least_key
   from-none [] h k = tt
   from-none ([] ∷ ss) h k = (tt, from-none ss h k)
@@ -82,20 +82,20 @@ module _ {K : Type 0} (O : Order K) {C : Type 0} where
   from_less a b ((u ∷ s) ∷ ss) h f = (low-less O a b u.0 h f.0, from_less a b ss h f.1)
 
   -- no key is below the least
-  least-from : (ss : List (List (K × C))) (k : K) → least_key O ss ≡ some k → FromAll k ss
+  least-from : (ss : List (List (K × C))) (k : K) → least_key O ss ≡ Some k → FromAll k ss
   unfolding least_key
   least-from [] k h = absurd (let z : ◌≡◌ {A = ℕ} 0 1 = cc in omega arith)
   least-from ([] ∷ ss) k h = (tt, least-from ss k h)
   least-from ((u ∷ s) ∷ ss) k h = go (least_key O ss) refl h (least-from ss)
     where
-      here : FromAll u.0 ss → some u.0 ≡ some k → FromAll k ((u ∷ s) ∷ ss)
+      here : FromAll u.0 ss → Some u.0 ≡ Some k → FromAll k ((u ∷ s) ∷ ss)
       here f h = let z : u.0 ≡ k = cc in subst (λ (j : K). FromAll j ((u ∷ s) ∷ ss)) z (same refl, f)
 
-      go : (o : Option K) → least_key O ss ≡ o → lower O (some u.0) o ≡ some k → ((j : K) → least_key O ss ≡ some j → FromAll j ss) → FromAll k ((u ∷ s) ∷ ss)
-      go none e h ih = here (from-none ss e u.0) h
-      go (some b) e h ih = choice (O.cmp u.0 b) refl h (ih b e)
+      go : (o : Option K) → least_key O ss ≡ o → lower O (Some u.0) o ≡ Some k → ((j : K) → least_key O ss ≡ Some j → FromAll j ss) → FromAll k ((u ∷ s) ∷ ss)
+      go None e h ih = here (from-none ss e u.0) h
+      go (Some b) e h ih = choice (O.cmp u.0 b) refl h (ih b e)
         where
-          choice : (d : Ordering) → O.cmp u.0 b ≡ d → pick_key O d u.0 b ≡ some k → FromAll b ss → FromAll k ((u ∷ s) ∷ ss)
+          choice : (d : Ordering) → O.cmp u.0 b ≡ d → pick_key O d u.0 b ≡ Some k → FromAll b ss → FromAll k ((u ∷ s) ∷ ss)
           choice Less q h f = here (from_less u.0 b ss q f) h
           choice Equal q h f = here (rw (O.same u.0 b q) f) h
           choice Greater q h f = let z : b ≡ k = cc in subst (λ (j : K). FromAll j ((u ∷ s) ∷ ss)) z (less (O.flip u.0 b q), f)
@@ -116,23 +116,23 @@ module _ {K : Type 0} (O : Order K) {C : Type 0} where
   total-pass k (s ∷ ss) = omega (arith, length-pass k s, total-pass k ss)
 
   -- the least key is somewhere
-  pub pile-fewer : (ss : List (List (K × C))) (k : K) → least_key O ss ≡ some k → total (pass_all O k ss) < total ss
+  pub pile-fewer : (ss : List (List (K × C))) (k : K) → least_key O ss ≡ Some k → total (pass_all O k ss) < total ss
   unfolding least_key pass_all pass total
   pile-fewer [] k h = absurd (let z : ◌≡◌ {A = ℕ} 0 1 = cc in omega arith)
   pile-fewer ([] ∷ ss) k h = omega (arith, pile-fewer ss k h)
   pile-fewer ((u ∷ s) ∷ ss) k h = go (least_key O ss) refl h (pile-fewer ss)
     where
-      here : some u.0 ≡ some k → total (pass_all O k ((u ∷ s) ∷ ss)) < total ((u ∷ s) ∷ ss)
+      here : Some u.0 ≡ Some k → total (pass_all O k ((u ∷ s) ∷ ss)) < total ((u ∷ s) ∷ ss)
       here h =
           let z : u.0 ≡ k = cc in
           subst (λ (j : K). total (pass_all O j ((u ∷ s) ∷ ss)) < total ((u ∷ s) ∷ ss)) z (rw (O.self u.0) (omega (arith, total-pass u.0 ss)))
 
-      go : (o : Option K) → least_key O ss ≡ o → lower O (some u.0) o ≡ some k → ((j : K) → least_key O ss ≡ some j → total (pass_all O j ss) < total ss)
+      go : (o : Option K) → least_key O ss ≡ o → lower O (Some u.0) o ≡ Some k → ((j : K) → least_key O ss ≡ Some j → total (pass_all O j ss) < total ss)
           → total (pass_all O k ((u ∷ s) ∷ ss)) < total ((u ∷ s) ∷ ss)
-      go none e h ih = here h
-      go (some b) e h ih = choice (O.cmp u.0 b) h (ih b e)
+      go None e h ih = here h
+      go (Some b) e h ih = choice (O.cmp u.0 b) h (ih b e)
         where
-          choice : (d : Ordering) → pick_key O d u.0 b ≡ some k → total (pass_all O b ss) < total ss → total (pass_all O k ((u ∷ s) ∷ ss)) < total ((u ∷ s) ∷ ss)
+          choice : (d : Ordering) → pick_key O d u.0 b ≡ Some k → total (pass_all O b ss) < total ss → total (pass_all O k ((u ∷ s) ∷ ss)) < total ((u ∷ s) ∷ ss)
           choice Less h f = here h
           choice Equal h f = here h
           choice Greater h f =
@@ -162,12 +162,12 @@ module _ {K : Type 0} (O : Order K) {C : Type 0} where
         lookup-set O j c.0 (g c.0 c.1 (lookup O c.0 (laid O g s m))) (laid O g s m) ∙ go (O.cmp j c.0) refl (lookup-laid j s m r.1)
       where
         go : (d : Ordering) → O.cmp j c.0 ≡ d → lookup O j (laid O g s m) ≡ meet (g j) (lookup O j s) (lookup O j m)
-            → choose d (g c.0 c.1 (lookup O c.0 (laid O g s m))) (lookup O j (laid O g s m)) ≡ meet (g j) (choose d (some c.1) (lookup O j s)) (lookup O j m)
+            → choose d (g c.0 c.1 (lookup O c.0 (laid O g s m))) (lookup O j (laid O g s m)) ≡ meet (g j) (choose d (Some c.1) (lookup O j s)) (lookup O j m)
         go Less h ih = ih
         go Greater h ih = ih
         go Equal h ih =
             let z : j ≡ c.0 = O.same j c.0 h in
-            let n : lookup O j s ≡ none = rw z (lookup-under O c.0 s r.0) in
+            let n : lookup O j s ≡ None = rw z (lookup-under O c.0 s r.0) in
             rw (← z, ih, n)
 
     rising-laid : (s : List (K × C)) (m : List (K × A)) → Rising O m → Rising O (laid O g s m)
@@ -177,8 +177,8 @@ module _ {K : Type 0} (O : Order K) {C : Type 0} where
 
     under-set : (a k : K) (o : Option A) (l : List (K × A)) → O.cmp a k ≡ Less → Under O a l → Under O a (set O k o l)
     unfolding set
-    under-set a k none l h u = under-remove O a k l u
-    under-set a k (some v) l h u = under-insert O a k v l h u
+    under-set a k None l h u = under-remove O a k l u
+    under-set a k (Some v) l h u = under-insert O a k v l h u
 
     under-laid : (k : K) (s : List (K × C)) (m : List (K × A)) → Under O k s → Under O k m → Under O k (laid O g s m)
     unfolding laid
@@ -186,7 +186,7 @@ module _ {K : Type 0} (O : Order K) {C : Type 0} where
     under-laid k (c ∷ s) m u v = under-set k c.0 (g c.0 c.1 (lookup O c.0 (laid O g s m))) (laid O g s m) u.0 (under-laid k s m u.1 v)
 
     abbrev look : K → List (List (K × C)) → Option A
-    look j [] = none
+    look j [] = None
     look j (s ∷ ss) = meet (g j) (lookup O j s) (look j ss)
 
     lookup-pile : (j : K) (ss : List (List (K × C))) → Ascend O ss → lookup O j (pile O g ss) ≡ look j ss
@@ -214,14 +214,14 @@ module _ {K : Type 0} (O : Order K) {C : Type 0} where
     look-answer k [] r f = refl
     look-answer k (s ∷ ss) r f = rw (lookup_head k s r.0 f.0, look-answer k ss r.1 f.1)
 
-    pub pile-end : (ss : List (List (K × C))) → least_key O ss ≡ none → pile O g ss ≡ []
+    pub pile-end : (ss : List (List (K × C))) → least_key O ss ≡ None → pile O g ss ≡ []
     unfolding least_key pile laid
     pile-end [] h = refl
     pile-end ([] ∷ ss) h = pile-end ss h
     pile-end ((u ∷ s) ∷ ss) h = absurd (none-lower O u.0 (least_key O ss) h)
 
     -- the least key goes first, and then the rest
-    pub pile-step : (ss : List (List (K × C))) → Ascend O ss → (k : K) → least_key O ss ≡ some k → pile O g ss ≡ row k (answer O g k ss) (pile O g (pass_all O k ss))
+    pub pile-step : (ss : List (List (K × C))) → Ascend O ss → (k : K) → least_key O ss ≡ Some k → pile O g ss ≡ row k (answer O g k ss) (pile O g (pass_all O k ss))
     unfolding lookup
     pile-step ss r k h =
         ext O _ _ (rising-pile ss) (rising-row (answer O g k ss)) (λ j. lookup-pile j ss r ∙ at j (O.cmp j k) refl ∙ inverse (lookup-row j (answer O g k ss)))
@@ -233,20 +233,20 @@ module _ {K : Type 0} (O : Order K) {C : Type 0} where
         under = under-pile k ss r f
 
         rising-row : (o : Option A) → Rising O (row k o (pile O g (pass_all O k ss)))
-        rising-row none = rising-pile (pass_all O k ss)
-        rising-row (some a) = (under, rising-pile (pass_all O k ss))
+        rising-row None = rising-pile (pass_all O k ss)
+        rising-row (Some a) = (under, rising-pile (pass_all O k ss))
 
         below : (j : K) → lookup O j (pile O g (pass_all O k ss)) ≡ look j (pass_all O k ss)
         below j = lookup-pile j (pass_all O k ss) (ascend-pass k ss r)
 
         lookup-row : (j : K) (o : Option A) → lookup O j (row k o (pile O g (pass_all O k ss))) ≡ choose (O.cmp j k) o (look j (pass_all O k ss))
-        lookup-row j none = go (O.cmp j k) refl
+        lookup-row j None = go (O.cmp j k) refl
           where
-            go : (d : Ordering) → O.cmp j k ≡ d → lookup O j (pile O g (pass_all O k ss)) ≡ choose d none (look j (pass_all O k ss))
+            go : (d : Ordering) → O.cmp j k ≡ d → lookup O j (pile O g (pass_all O k ss)) ≡ choose d None (look j (pass_all O k ss))
             go Less q = below j
             go Greater q = below j
             go Equal q = rw (O.same j k q) (lookup-under O k (pile O g (pass_all O k ss)) under)
-        lookup-row j (some a) = rw (below j)
+        lookup-row j (Some a) = rw (below j)
 
         at : (j : K) (d : Ordering) → O.cmp j k ≡ d → look j ss ≡ choose (O.cmp j k) (answer O g k ss) (look j (pass_all O k ss))
         at j Less q = rw q (inverse (look-pass j k ss (λ p. let z : ◌≡◌ {A = ℕ} 0 1 = cc in omega arith)))

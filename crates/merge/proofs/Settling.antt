@@ -1,7 +1,7 @@
 -- The rows that sources decide, one after the other.
 -- Assumes nothing.
+use Rattle.std.specs.Prelude.{None, Some}
 use mathlib.Core.Path.{◌≡◌, refl, ap, ◌∙◌}
-use mathlib.Core.Option.{none, some}
 use mathlib.Core.Bool.{true, false}
 use mathlib.Core.List.{List, map}
 use Prim.Native.Nat.{ℕ, ◌+◌, ◌≤◌, ◌<◌}
@@ -35,12 +35,12 @@ settling-none r = record { same = refl; ready = r }
 module _ {img : List ℕ} {all rest : Sources} (g : Settling img all rest) {best : Head} (l : Least img rest best) where
   pub settled-none : best.more ≡ false → Gives img all best rest
   settled-none e =
-      let n : least by_bytes (sources_of img rest) ≡ none = rw e at l.is in
+      let n : least by_bytes (sources_of img rest) ≡ None = rw e at l.is in
       let d = g.same ∙ decisions-end by_bytes (sources_of img rest) n in
       record { settles = record { gives = rw e d; rows = rw e (ap (map plain_row) d); ready = g.ready } }
 
   module _ (h : best.more ≡ true) {next : Sources} (p : PassedAll img rest best.start best.length next) where
-    found : least by_bytes (sources_of img rest) ≡ some (row_at img best)
+    found : least by_bytes (sources_of img rest) ≡ Some (row_at img best)
     found = rw h at l.is
 
     next-ready : Ready img next

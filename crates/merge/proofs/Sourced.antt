@@ -1,7 +1,7 @@
 -- How a source is read in the image, row by row.
 -- Assumes nothing.
+use Rattle.std.specs.Prelude.{None, Option, Some}
 use mathlib.Core.Path.{◌≡◌, refl, sym, ap}
-use mathlib.Core.Option.{Option, some}
 use mathlib.Core.Bool.{Bool, true, false}
 use mathlib.Core.List.{List, [], ◌∷◌, ◌++◌}
 use Prim.Native.Nat.{ℕ, zero, suc, ◌+◌, ◌-◌, ◌≤◌}
@@ -24,8 +24,6 @@ use Rattle.image.specs.FieldLayout.{name}
 use Rattle.image.specs.Under.{UnderName, under}
 use Rattle.image.specs.declared.name.Under.{Under}
 use Rattle.image.specs.declared.name.Under.TheVariants as U
-use Rattle.nodes.specs.declared.option.OptionPart.{OptionPart}
-use Rattle.nodes.specs.declared.option.OptionPart.TheVariants as P
 use Rattle.nodes.specs.Options.{text_at, text_of}
 use Rattle.nodes.specs.declared.part.Part.{Part}
 use Rattle.nodes.proofs.Values.{reads_made}
@@ -44,17 +42,17 @@ module _ {img : List ℕ} {u : Under} {at : Cursor} where
   choice-nothing e w = record { reads = rw e (read-end img w) }
 
   pub choice-inode : {n : ℕ} {v : Part} {next : Cursor} → u ≡ U.Inode → Answers img (number_read edge) at 0 n next → (v.start ≡ 0) × (v.length ≡ 0) → Chooses img u at true n v next
-  choice-inode e h z = record { reads = rw (e, z.1) (reads_made (number_read edge) (λ n. some (n, [])) h.reads) }
+  choice-inode e h z = record { reads = rw (e, z.1) (reads_made (number_read edge) (λ n. Some (n, [])) h.reads) }
 
   pub choice-value : {start size : ℕ} {next : Cursor} → u ≡ U.Value → AnswersPart img (text-read 0 4096) at start size next
       → Chooses img u at true 0 (record { start = start; «length» = size }) next
-  choice-value e h = record { reads = rw e (reads_made (text-read 0 4096) (λ t. some (0, t)) h.reads) }
+  choice-value e h = record { reads = rw e (reads_made (text-read 0 4096) (λ t. Some (0, t)) h.reads) }
 
-set-chosen : (img : List ℕ) (o : OptionPart) → map_if (λ t. (0, t)) (text_of img o) ≡ chosen (is_set o) (0, text_at img (value_of o))
-set-chosen img (P.Some p) = refl
-set-chosen img P.None = refl
+set-chosen : (img : List ℕ) (o : Option Part) → map_if (λ t. (0, t)) (text_of img o) ≡ chosen (is_set o) (0, text_at img (value_of o))
+set-chosen img (Some p) = refl
+set-chosen img None = refl
 
-pub choice-change : {img : List ℕ} {u : Under} {at : Cursor} (o : OptionPart) {b : Bool} {v : Part} {next : Cursor} → u ≡ U.Change
+pub choice-change : {img : List ℕ} {u : Under} {at : Cursor} (o : Option Part) {b : Bool} {v : Part} {next : Cursor} → u ≡ U.Change
     → Reads img (maybe_read (text-read 0 4096)) at (text_of img o) next → b ≡ is_set o → v ≡ value_of o → Chooses img u at b 0 v next
 choice-change {img} o e h d f = record { reads = rw (e, d, f, ← (set-chosen img o)) (reads_made (maybe_read (text-read 0 4096)) (map_if (λ t. (0, t))) h) }
 

@@ -1,13 +1,11 @@
 -- Sources by value, and what merging them promises.
-use Rattle.std.specs.Prelude.{◌≡◌, Bool, true, false, cond, ltb, List, [], ◌∷◌, ◌++◌, map, ℕ, ◌+◌, ◌≤◌, length, take}
-use Rattle.std.proofs.Math.Option.{Option, none, some}
+use Rattle.nodes.specs.declared.part.Part.{Part}
+use Rattle.std.specs.Prelude.{◌≡◌, Bool, true, false, cond, ltb, List, [], ◌∷◌, ◌++◌, map, ℕ, ◌+◌, ◌≤◌, length, take, None, Option, Some}
 use Rattle.wire.specs.Orders.{by_bytes}
 use Rattle.wire.specs.Reading.{part}
 use Rattle.image.specs.Meaning.{Text}
 use Rattle.image.specs.declared.name.Under.{Under}
 use Rattle.nodes.specs.Options.{text_at}
-use Rattle.nodes.specs.declared.option.OptionPart.{OptionPart}
-use Rattle.nodes.specs.declared.option.OptionPart.TheVariants as P
 use Rattle.rules.specs.ReadCalls.{Row, row_of}
 use Rattle.merge.specs.Pile.{pass, pass_all, Ascend, upper, least, decisions}
 use Rattle.merge.specs.Sources.{Given, Decided, list_rows, source_rows, row_at, rows_if_more, Inside}
@@ -39,9 +37,9 @@ pub record NoSources (r : Sources) : Type 0 where
   pub none_yet : r.count ≡ 0
 
 -- the list of a part, as a source
-abbrev pub lists_if : List ℕ → Under → OptionPart → List (List Decided)
-lists_if img u (P.Some p) = list_rows img u p.start ∷ []
-lists_if img u P.None = []
+abbrev pub lists_if : List ℕ → Under → Option Part → List (List Decided)
+lists_if img u (Some p) = list_rows img u p.start ∷ []
+lists_if img u None = []
 
 -- at most two lists: how many, and their rows
 abbrev pub how_many : AtMostTwo → ℕ
@@ -68,8 +66,8 @@ PushesOne old n s r new = PushesLists old n (F.One s) r new
 
 -- a row, if there is one
 abbrev pub row_if : Bool → Decided → Option Decided
-row_if true r = some r
-row_if false r = none
+row_if true r = Some r
+row_if false r = None
 
 abbrev pub head_row : List ℕ → Head → Option Decided
 head_row img h = row_if h.more (row_at img h)

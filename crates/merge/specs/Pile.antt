@@ -1,38 +1,37 @@
 -- A pile of sources: rising rows of changes, the topmost first, each of which alters what stands beneath it by a rule g.
 -- Entries of a base, names that a delta removes and entries that it adds are such sources; so are records by inode.
-use Rattle.std.proofs.Math.Option.{Option, none, some}
-use Rattle.std.specs.Prelude.{List, [], ◌∷◌, ℕ, ◌+◌, length}
-use Rattle.wire.specs.declared.order.Ordering.{Ordering}
-use Rattle.wire.specs.declared.order.Ordering.TheVariants.{Less, Equal, Greater}
+use Rattle.std.specs.Prelude.{List, [], ◌∷◌, ℕ, ◌+◌, length, None, Option, Some}
+use Rattle.std.specs.declared.cmp.Ordering.{Ordering}
+use Rattle.std.specs.declared.cmp.Ordering.TheVariants.{Less, Equal, Greater}
 use Rattle.wire.specs.Order.{Order}
 use Rattle.wire.specs.Rows.{choose, lookup, set, Rising}
 use Rattle.wire.specs.Maps.{Map, meet, merge, empty}
 
 module _ {K : Type 0} (O : Order K) where
   abbrev pub pick_key : Ordering → K → K → Option K
-  pick_key Less a b = some a
-  pick_key Equal a b = some a
-  pick_key Greater a b = some b
+  pick_key Less a b = Some a
+  pick_key Equal a b = Some a
+  pick_key Greater a b = Some b
 
   abbrev pub lower : Option K → Option K → Option K
-  lower none o = o
-  lower (some a) none = some a
-  lower (some a) (some b) = pick_key (O.cmp a b) a b
+  lower None o = o
+  lower (Some a) None = Some a
+  lower (Some a) (Some b) = pick_key (O.cmp a b) a b
 
 module _ {K : Type 0} (O : Order K) {C : Type 0} where
   abbrev pub first_key : List (K × C) → Option K
-  first_key [] = none
-  first_key (e ∷ l) = some e.0
+  first_key [] = None
+  first_key (e ∷ l) = Some e.0
 
   -- the least key that stands first
   unfoldable pub least_key : List (List (K × C)) → Option K
-  least_key [] = none
+  least_key [] = None
   least_key (s ∷ ss) = lower O (first_key s) (least_key ss)
 
   -- the change of k, if it stands first
   abbrev pub head_if : K → List (K × C) → Option C
-  head_if k [] = none
-  head_if k (e ∷ l) = choose (O.cmp k e.0) (some e.1) none
+  head_if k [] = None
+  head_if k (e ∷ l) = choose (O.cmp k e.0) (Some e.1) None
 
   -- without the first row, if its key is k
   unfoldable pub pass : K → List (K × C) → List (K × C)
@@ -60,7 +59,7 @@ module _ {K : Type 0} (O : Order K) {C : Type 0} where
 
     -- what the changes of k that stand first make, one after another from the lowest
     unfoldable pub answer : K → List (List (K × C)) → Option A
-    answer k [] = none
+    answer k [] = None
     answer k (s ∷ ss) = meet (g k) (head_if k s) (answer k ss)
 
     -- maps of changes, the topmost first, merged one after another
@@ -74,8 +73,8 @@ module _ {K : Type 0} (O : Order K) {C : Type 0} where
 
 -- a row, if there is a value for it
 abbrev pub row : {K A : Type 0} → K → Option A → List (K × A) → List (K × A)
-row k none l = l
-row k (some a) l = (k, a) ∷ l
+row k None l = l
+row k (Some a) l = (k, a) ∷ l
 
 -- how many rows there are in all
 unfoldable pub total : {X : Type 0} → List (List X) → ℕ
@@ -90,8 +89,8 @@ module _ {K : Type 0} (O : Order K) {A : Type 0} where
   itself k c o = c
 
   abbrev pub first : List (K × Option A) → Option (K × Option A)
-  first [] = none
-  first (e ∷ l) = some e
+  first [] = None
+  first (e ∷ l) = Some e
 
   abbrev pub uppermost : Ordering → K × Option A → K × Option A → K × Option A
   uppermost Less u l = u
@@ -100,13 +99,13 @@ module _ {K : Type 0} (O : Order K) {A : Type 0} where
 
   -- the row with the lesser key; of equal keys the upper
   abbrev pub upper : Option (K × Option A) → Option (K × Option A) → Option (K × Option A)
-  upper none l = l
-  upper (some u) none = some u
-  upper (some u) (some l) = some (uppermost (O.cmp u.0 l.0) u l)
+  upper None l = l
+  upper (Some u) None = Some u
+  upper (Some u) (Some l) = Some (uppermost (O.cmp u.0 l.0) u l)
 
   -- the first row with the least key, of the topmost source that has one
   unfoldable pub least : List (List (K × Option A)) → Option (K × Option A)
-  least [] = none
+  least [] = None
   least (s ∷ ss) = upper (first s) (least ss)
 
   -- what the sources decide

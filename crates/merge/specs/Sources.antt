@@ -1,7 +1,6 @@
 -- Lists by name as sources of a listing. Document 01: "From the bottom: tombstone clears, a directory delta removes then adds, other kinds
 -- do nothing." So the topmost list that has a name decides it: the name is given, with its start and an inode or a value, or removed.
-use Rattle.std.specs.Prelude.{◌≡◌, Bool, true, false, List, [], ◌∷◌, ◌++◌, ℕ, zero, suc, ◌+◌, ◌-◌, ◌≤◌, length, drop}
-use Rattle.std.proofs.Math.Option.{Option, none, some}
+use Rattle.std.specs.Prelude.{◌≡◌, Bool, true, false, List, [], ◌∷◌, ◌++◌, ℕ, zero, suc, ◌+◌, ◌-◌, ◌≤◌, length, drop, None, Option, Some}
 use Rattle.wire.specs.Parse.{Parsed, fault, got, bind}
 use Rattle.wire.specs.Combinators.{◌then◌}
 use Rattle.wire.specs.Number.{number_bytes, number_read}
@@ -15,8 +14,6 @@ use Rattle.image.specs.declared.name.Under.{Under}
 use Rattle.image.specs.declared.name.Under.TheVariants as U
 use Rattle.nodes.specs.declared.part.Part.{Part}
 use Rattle.nodes.specs.Options.{text_at}
-use Rattle.nodes.specs.declared.option.OptionPart.{OptionPart}
-use Rattle.nodes.specs.declared.option.OptionPart.TheVariants as P
 use Rattle.rules.specs.Changes.{map_if}
 use Rattle.merge.specs.declared.source.Source.{Source}
 use Rattle.merge.specs.declared.source.Head.{Head}
@@ -31,28 +28,28 @@ Decided = Text × Option (ℕ × Given)
 
 -- what stands under a name: "removed"; "entries (name, inode)"; "attributes (name, value)"; "0 removed or 1 and value"; "inode 0"
 abbrev pub choice : (u : Under) → UnderName u → Option Given
-choice U.Nothing v = none
-choice U.Inode v = some (v, [])
-choice U.Value v = some (0, v)
+choice U.Nothing v = None
+choice U.Inode v = Some (v, [])
+choice U.Value v = Some (0, v)
 choice U.Change v = map_if (λ t. (0, t)) v
 
 abbrev pub decided : (u : Under) → ℕ × UnderName u → Option (ℕ × Given)
 decided u x = map_if (λ g. (x.0, g)) (choice u x.1)
 
 abbrev pub chosen : Bool → Given → Option Given
-chosen true g = some g
-chosen false g = none
+chosen true g = Some g
+chosen false g = None
 
 abbrev pub chosen_read : Under → List ℕ → Parsed (Option Given)
 chosen_read u s = bind ((under u).read s) (λ v r. got (choice u v) r)
 
-abbrev pub is_set : OptionPart → Bool
-is_set (P.Some p) = true
-is_set P.None = false
+abbrev pub is_set : Option Part → Bool
+is_set (Some p) = true
+is_set None = false
 
-abbrev pub value_of : OptionPart → Part
-value_of (P.Some p) = p
-value_of P.None = record { start = 0; «length» = 0 }
+abbrev pub value_of : Option Part → Part
+value_of (Some p) = p
+value_of None = record { start = 0; «length» = 0 }
 
 abbrev pub rows_if : {A B : Type 0} → Parsed A → (A → List B) → List B
 rows_if (fault f) g = []

@@ -2,12 +2,12 @@
 ghost use Rattle.std.specs.Prelude.{◌+◌, ◌≤◌, ◌<◌, length, ◌≡◌};
 ghost use Rattle.merge.specs.Merges.{Whole, NoSources, how_many, PushesOne, PushesLists, lists_if, rows_in, sources, Upper, Least, Passed, PassedAll, Ready, decided_rows, Gives, Settles, count_of};
 
+use std::cmp::Ordering;
 use crate::slots::{set_source, source_of};
 use crate::source::{Head, Source, head_of, no_head, source_at};
 use image::name::Under;
-use nodes::option::OptionPart;
 use nodes::part::Part;
-use wire::order::{Ordering, compare_part};
+use wire::order::compare_part;
 use wire::part::part;
 
 // The sources of a listing, `count` of them, the topmost first: at most two lists of each record, and one of the base. Three numbers of each.
@@ -77,12 +77,12 @@ pub fn push_lists(rows: &mut [u64; 105], count: usize, lists: AtMostTwo) -> usiz
 }
 
 // The list at a part of the image, if there is one.
-pub fn list_if(img: &[u8], option: OptionPart, what: Under) -> AtMostTwo
+pub fn list_if(img: &[u8], option: Option<Part>, what: Under) -> AtMostTwo
     ensures { rows_in img.now result ≡ lists_if img.now what option }
 {
     match option {
-        OptionPart::Some(list) => AtMostTwo::One(source_at(img, list.start, what)),
-        OptionPart::None => AtMostTwo::None,
+        Some(list) => AtMostTwo::One(source_at(img, list.start, what)),
+        None => AtMostTwo::None,
     }
 }
 

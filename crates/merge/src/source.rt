@@ -5,7 +5,7 @@ ghost use Rattle.image.specs.declared.name.Under.TheVariants as U;
 ghost use Rattle.merge.specs.Sources.{is_set, value_of, Chooses, Ended, NoRow, HeadOf, ListOf};
 
 use image::name::Under;
-use nodes::option::{OptionPart, read_maybe_text};
+use nodes::option::read_maybe_text;
 use nodes::part::Part;
 use wire::cursor::Cursor;
 use wire::number::read_number;
@@ -101,12 +101,12 @@ fn read_choice(img: &[u8], at: Cursor, what: Under) -> Choice
     }
 }
 
-fn is_set(value: OptionPart) -> bool
+fn is_set(value: Option<Part>) -> bool
     ensures { result ≡ is_set value }
 {
     match value {
-        OptionPart::Some(_) => true,
-        OptionPart::None => false,
+        Some(_) => true,
+        None => false,
     }
 }
 
@@ -120,12 +120,12 @@ pub fn no_value() -> Part
     }
 }
 
-fn value_of(value: OptionPart) -> Part
+fn value_of(value: Option<Part>) -> Part
     ensures { result ≡ value_of value }
 {
     match value {
-        OptionPart::Some(text) => text,
-        OptionPart::None => Part {
+        Some(text) => text,
+        None => Part {
             start: 0,
             length: 0,
         },

@@ -1,8 +1,8 @@
 -- How values are read: what is there or not, and lists that stay in the image.
 -- Assumes nothing.
+use Rattle.std.specs.Prelude.{None, Option, Some}
 use mathlib.Core.Path.{◌≡◌, refl, sym, ap, ◌∙◌}
 use mathlib.Core.List.{List}
-use mathlib.Core.Option.{Option, none, some}
 use Prim.Native.Nat.{ℕ, ◌/◌, ◌%◌, ◌≤◌}
 use native.Mathlib.Omega.{arith}
 use lib.ListN.{length, drop, length-append, length-drop}
@@ -25,20 +25,18 @@ use Rattle.image.specs.RecordLayout.{later_flags, flags, fields, fields_of}
 use Rattle.image.specs.Places.{Ends, maybe_read}
 use Rattle.image.proofs.Passing.{ends-got, ends-fault}
 use Rattle.nodes.specs.declared.part.Part.{Part}
-use Rattle.nodes.specs.declared.option.OptionPart.TheVariants as P
 use Rattle.nodes.specs.declared.attr.Words.{Words}
-use Rattle.nodes.specs.Options.{word_of}
 use Rattle.nodes.specs.Attrs.{ReadsChanges, later_read}
 use Rattle.nodes.specs.Listed.{list_at, IfAt, by_name, ReadsNames, between, part_from}
 use Rattle.nodes.proofs.OneForm.{by_name-one}
 
 -- a field that is there, or not
 module _ {A : Type 0} (p : List ℕ → Parsed A) {img : List ℕ} {bit : ℕ} where
-  pub reads_none : {at : Cursor} → bit ≡ 0 → cursor_in img at → Reads img (opt-read p bit) at none at
+  pub reads_none : {at : Cursor} → bit ≡ 0 → cursor_in img at → Reads img (opt-read p bit) at None at
   unfolding opt-read
   reads_none e w = rw e (read-end img w)
 
-  pub reads-some : {at next : Cursor} {a : A} → (bit ≡ 0 → ⊥) → bit ≤ 1 → Reads img p at a next → Reads img (opt-read p bit) at (some a) next
+  pub reads-some : {at next : Cursor} {a : A} → (bit ≡ 0 → ⊥) → bit ≤ 1 → Reads img p at a next → Reads img (opt-read p bit) at (Some a) next
   unfolding opt-read
   reads-some n l h = let e : bit ≡ 1 = omega arith in rw e (read-then img p _ h (read-end img h.within))
 
@@ -119,10 +117,10 @@ pub nowhere : (c : Cursor) → IfAt c (λ q. Unit {0})
 nowhere c = anywhere c tt
 
 module _ {img : List ℕ} {at : Cursor} {bit : ℕ} where
-  pub no-changes : bit ≡ 0 → cursor_in img at → ReadsChanges img at bit P.None at
+  pub no-changes : bit ≡ 0 → cursor_in img at → ReadsChanges img at bit None at
   no-changes e w = record { reads = reads_none _ e w; listed = nowhere at }
 
-  pub some-changes : {next : Cursor} {p : Part} → (bit ≡ 0 → ⊥) → bit ≤ 1 → ReadsNames img Change at p next → ReadsChanges img at bit (P.Some p) next
+  pub some-changes : {next : Cursor} {p : Part} → (bit ≡ 0 → ⊥) → bit ≤ 1 → ReadsNames img Change at p next → ReadsChanges img at bit (Some p) next
   some-changes n l h = record { reads = reads-some _ n l h.reads; listed = h.listed }
 
 -- ---- the mask and the fields
@@ -131,8 +129,8 @@ abbrev bit : ℕ → List ℕ → Parsed (Option ℕ)
 bit b = opt-read (number_read 4294967295) (b % 2)
 
 module _ {img : List ℕ} {m : ℕ} {f : Fields} {at c0 c1 c2 c3 c4 next : Cursor} where
-  pub reads-fields : (w : Words) → Answers img (number_read 511) at 0 m c0 → Reads img (bit m) c0 (word_of w.mode) c1 → Reads img (bit (m / 2)) c1 (word_of w.uid) c2
-      → Reads img (bit (m / 2 / 2)) c2 (word_of w.gid) c3 → Reads img (bit (m / 2 / 2 / 2)) c3 (word_of w.nlink) c4
+  pub reads-fields : (w : Words) → Answers img (number_read 511) at 0 m c0 → Reads img (bit m) c0 w.mode c1 → Reads img (bit (m / 2)) c1 w.uid c2
+      → Reads img (bit (m / 2 / 2)) c2 w.gid c3 → Reads img (bit (m / 2 / 2 / 2)) c3 w.nlink c4
       → Reads img (later_read (m / 2 / 2 / 2 / 2) w) c4 f next → Reads img fields.read at f next
   unfolding fields
   reads-fields w h x y z n l =
@@ -141,7 +139,7 @@ module _ {img : List ℕ} {m : ℕ} {f : Fields} {at c0 c1 c2 c3 c4 next : Curso
       let k3 = flag word k2 in
       reads-tag (number_read 511) (λ m r. (flags.at m).read r) (λ p r. got (fields_of p) r) h.reads
       (reads_first (bit m) (k3.at (m / 2)).read (λ p r. got (fields_of p) r) x
-      (reads_first (bit (m / 2)) (k2.at (m / 2 / 2)).read (λ p r. got (fields_of (word_of w.mode, p)) r) y
-      (reads_first (bit (m / 2 / 2)) (k1.at (m / 2 / 2 / 2)).read (λ p r. got (fields_of (word_of w.mode, (word_of w.uid, p))) r) z
+      (reads_first (bit (m / 2)) (k2.at (m / 2 / 2)).read (λ p r. got (fields_of (w.mode, p)) r) y
+      (reads_first (bit (m / 2 / 2)) (k1.at (m / 2 / 2 / 2)).read (λ p r. got (fields_of (w.mode, (w.uid, p))) r) z
       (reads_first (bit (m / 2 / 2 / 2)) (later_flags.at (m / 2 / 2 / 2 / 2)).read
-      (λ p r. got (fields_of (word_of w.mode, (word_of w.uid, (word_of w.gid, p)))) r) n l))))
+      (λ p r. got (fields_of (w.mode, (w.uid, (w.gid, p)))) r) n l))))

@@ -1,6 +1,5 @@
 -- Lists that stay in the image. Document 01: "`HashMap`, `BTreeMap`, `Vec` become sorted lists in the image."
-use Rattle.std.specs.Prelude.{◌≡◌, refl, List, ℕ, ◌+◌, ◌-◌, ◌≤◌, length, drop}
-use Rattle.std.proofs.Math.Option.{Option, none, some}
+use Rattle.std.specs.Prelude.{◌≡◌, refl, List, ℕ, ◌+◌, ◌-◌, ◌≤◌, length, drop, None, Option, Some}
 use Rattle.wire.specs.declared.cursor.Cursor.{Cursor}
 use Rattle.wire.specs.declared.cursor.Cursor.TheVariants as C
 use Rattle.wire.specs.Parse.{Parsed, fault, got}
@@ -13,8 +12,6 @@ use Rattle.image.specs.declared.name.Under.{Under}
 use Rattle.image.specs.FieldLayout.{name}
 use Rattle.image.specs.Under.{UnderName, under}
 use Rattle.nodes.specs.declared.part.Part.{Part}
-use Rattle.nodes.specs.declared.option.OptionPart.{OptionPart}
-use Rattle.nodes.specs.declared.option.OptionPart.TheVariants as P
 
 abbrev pub read_or : {A : Type 0} → A → Parsed A → A
 read_or z (fault f) = z
@@ -29,9 +26,9 @@ module _ (img : List ℕ) (u : Under) where
   abbrev pub list_at : Part → Map by_bytes (UnderName u)
   list_at p = read_or (empty by_bytes) ((by_name u).read (drop p.start img))
 
-  abbrev pub list_of : OptionPart → Option (Map by_bytes (UnderName u))
-  list_of (P.Some p) = some (list_at p)
-  list_of P.None = none
+  abbrev pub list_of : Option Part → Option (Map by_bytes (UnderName u))
+  list_of (Some p) = Some (list_at p)
+  list_of None = None
 
   -- there is a list at the place, and it ends at `end`
   pub record Listed (p : Part) (end : ℕ) : Type 0 where
@@ -39,9 +36,9 @@ module _ (img : List ℕ) (u : Under) where
     pub ends : p.start + p.length ≡ end
     pub inside : end ≤ length img
 
-  abbrev pub ListedIf : OptionPart → ℕ → Type 0
-  ListedIf (P.Some p) end = Listed p end
-  ListedIf P.None end = Unit {0}
+  abbrev pub ListedIf : Option Part → ℕ → Type 0
+  ListedIf (Some p) end = Listed p end
+  ListedIf None end = Unit {0}
 
 -- what holds of a reading that ends at a place; nothing, where it stopped
 abbrev pub IfAt : Cursor → (ℕ → Type 0) → Type 0

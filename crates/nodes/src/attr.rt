@@ -3,8 +3,9 @@ ghost use Rattle.std.specs.Prelude.{◌≤◌, ◌≡◌};
 ghost use Rattle.wire.specs.Reading.{cursor_in};
 ghost use Rattle.nodes.specs.Attrs.{attr_delta, ReadsAttr, ReadsLater, ReadsChanges};
 
-use crate::option::{OptionPart, OptionPartRead, OptionTime, OptionU32, read_time_if, read_u32_if};
-use crate::part::read_names;
+use wire::time::Time;
+use crate::option::{OptionPartRead, read_time_if, read_u32_if};
+use crate::part::{Part, read_names};
 use image::name::Under;
 use wire::cursor::Cursor;
 use wire::number::read_number;
@@ -12,15 +13,15 @@ use wire::number::read_number;
 // Each field is there, or not. The attribute changes are a list in the image.
 #[derive(Clone, Copy)]
 pub struct AttrDelta {
-    pub mode: OptionU32,
-    pub uid: OptionU32,
-    pub gid: OptionU32,
-    pub nlink: OptionU32,
-    pub atime: OptionTime,
-    pub mtime: OptionTime,
-    pub ctime: OptionTime,
-    pub created_at: OptionTime,
-    pub xattrs: OptionPart,
+    pub mode: Option<u32>,
+    pub uid: Option<u32>,
+    pub gid: Option<u32>,
+    pub nlink: Option<u32>,
+    pub atime: Option<Time>,
+    pub mtime: Option<Time>,
+    pub ctime: Option<Time>,
+    pub created_at: Option<Time>,
+    pub xattrs: Option<Part>,
 }
 
 #[derive(Clone, Copy)]
@@ -60,10 +61,10 @@ pub fn read_attr_delta(img: &[u8], at: Cursor) -> AttrDeltaRead
 // The first four fields.
 #[derive(Clone, Copy)]
 pub struct Words {
-    pub mode: OptionU32,
-    pub uid: OptionU32,
-    pub gid: OptionU32,
-    pub nlink: OptionU32,
+    pub mode: Option<u32>,
+    pub uid: Option<u32>,
+    pub gid: Option<u32>,
+    pub nlink: Option<u32>,
 }
 
 // The times and the attribute changes that the upper bits of a mask say are there, after the first four fields.
@@ -101,14 +102,14 @@ fn read_later(img: &[u8], at: Cursor, bits: u64, words: Words) -> AttrDeltaRead
 // The four times.
 #[derive(Clone, Copy)]
 pub struct Times {
-    pub atime: OptionTime,
-    pub mtime: OptionTime,
-    pub ctime: OptionTime,
-    pub created_at: OptionTime,
+    pub atime: Option<Time>,
+    pub mtime: Option<Time>,
+    pub ctime: Option<Time>,
+    pub created_at: Option<Time>,
 }
 
 // The fields, put together.
-fn attr_delta_of(words: Words, times: Times, xattrs: OptionPart) -> AttrDelta
+fn attr_delta_of(words: Words, times: Times, xattrs: Option<Part>) -> AttrDelta
     ensures { result ≡ attr_delta words times xattrs }
 {
     let mode = words.mode;
@@ -139,7 +140,7 @@ fn read_changes_if(img: &[u8], at: Cursor, bit: u64) -> OptionPartRead
 {
     if bit == 0 {
         return OptionPartRead {
-            option: OptionPart::None,
+            option: None,
             next: at,
         };
     }
@@ -147,7 +148,7 @@ fn read_changes_if(img: &[u8], at: Cursor, bit: u64) -> OptionPartRead
     let part = list.part;
     let next = list.next;
     OptionPartRead {
-        option: OptionPart::Some(part),
+        option: Some(part),
         next,
     }
 }

@@ -1,7 +1,7 @@
 -- The image with a layer normalised is that of the store with the layer normalised.
 -- Assumes nothing.
+use Rattle.std.specs.Prelude.{None, Option, Some}
 use mathlib.Core.Path.{◌≡◌, refl, sym, ap, ◌∙◌}
-use mathlib.Core.Option.{Option, none, some}
 use mathlib.Core.Bool.{true, false}
 use mathlib.Core.List.{List, [], ◌∷◌, ◌++◌, map, append_assoc, append-nil}
 use Prim.Native.Nat.{ℕ, zero, suc, ◌+◌, ◌-◌, ◌≤◌, ◌<◌}
@@ -12,8 +12,8 @@ use lib.Seq.{take-suc}
 use borrow.Author.Tests.{lt-ltb, le-ltb}
 use Rattle.wire.specs.declared.cursor.Cursor.{Cursor}
 use Rattle.wire.specs.declared.cursor.Cursor.TheVariants.{At}
-use Rattle.wire.specs.declared.order.Ordering.{Ordering}
-use Rattle.wire.specs.declared.order.Ordering.TheVariants.{Less, Equal, Greater}
+use Rattle.std.specs.declared.cmp.Ordering.{Ordering}
+use Rattle.std.specs.declared.cmp.Ordering.TheVariants.{Less, Equal, Greater}
 use Rattle.wire.specs.Number.{number_bytes, number_read, number_to}
 use Rattle.wire.specs.Order.{Order}
 use Rattle.wire.specs.Orders.{by_number}
@@ -79,21 +79,21 @@ module _ {K A : Type 0} (O : Order K) (f : K → A → A) where
   keyed-lookup k [] = refl
   keyed-lookup k (e ∷ l) = rw (keyed-lookup k l) (go (O.cmp k e.0) refl)
     where
-      go : (d : Ordering) → O.cmp k e.0 ≡ d → choose d (some (f e.0 e.1)) (map_if (f k) (lookup O k l)) ≡ map_if (f k) (choose d (some e.1) (lookup O k l))
+      go : (d : Ordering) → O.cmp k e.0 ≡ d → choose d (Some (f e.0 e.1)) (map_if (f k) (lookup O k l)) ≡ map_if (f k) (choose d (Some e.1) (lookup O k l))
       go Less q = refl
       go Greater q = refl
       go Equal q = rw (O.same k e.0 q)
 
-  keyed-rows : (m : Map O A) → (merge O (λ k a o. some (f k a)) m (empty O)).rows ≡ map keyed m.rows
+  keyed-rows : (m : Map O A) → (merge O (λ k a o. Some (f k a)) m (empty O)).rows ≡ map keyed m.rows
   unfolding get
   keyed-rows m =
-      let n = merge O (λ k a o. some (f k a)) m (empty O) in
+      let n = merge O (λ k a o. Some (f k a)) m (empty O) in
       ext O n.rows (map keyed m.rows) n.rising (keyed-rising m.rows m.rising) (λ k.
-      get-merge O (λ k a o. some (f k a)) k m (empty O) ∙ rw get-empty (go k (get O k m)) ∙ sym (keyed-lookup k m.rows))
+      get-merge O (λ k a o. Some (f k a)) k m (empty O) ∙ rw get-empty (go k (get O k m)) ∙ sym (keyed-lookup k m.rows))
     where
-      go : (k : K) (o : Option A) → meet (λ a o. some (f k a)) o none ≡ map_if (f k) o
-      go k none = refl
-      go k (some a) = refl
+      go : (k : K) (o : Option A) → meet (λ a o. Some (f k a)) o None ≡ map_if (f k) o
+      go k None = refl
+      go k (Some a) = refl
 
 normal-rows : (ls : List Layer) (b : Base) (l : Layer) → (normal_layer ls b l).rows ≡ normal_rows b ls l.rows
 unfolding normal_layer
@@ -105,7 +105,7 @@ map-length f (x ∷ l) = ap suc (map-length f l)
 
 normal-write : (ls : List Layer) (b : Base) (l : Layer)
     → records.write (normal_layer ls b l) ≡ number_bytes (length l.rows) ++ rows_bytes inode layer_record (normal_rows b ls l.rows)
-normal-write ls b l = rw (normal-rows ls b l, map-length (normal_row b ls) l.rows, chain-rows by_number inode layer_record none (normal_rows b ls l.rows))
+normal-write ls b l = rw (normal-rows ls b l, map-length (normal_row b ls) l.rows, chain-rows by_number inode layer_record None (normal_rows b ls l.rows))
 
 -- ---- the image written
 

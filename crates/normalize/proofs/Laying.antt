@@ -1,14 +1,14 @@
 -- The records of the topmost layer of a walk, one after the other.
 -- Assumes nothing.
+use Rattle.std.specs.Prelude.{None, Option, Some}
 use mathlib.Core.Path.{◌≡◌, refl, sym, ap, ◌∙◌}
-use mathlib.Core.Option.{Option, none, some}
 use mathlib.Core.Bool.{Bool, true, false}
 use mathlib.Core.List.{List, [], ◌∷◌, ◌++◌, map}
 use Prim.Native.Nat.{ℕ, zero, suc, ◌≤◌, ◌<◌}
 use native.Mathlib.Omega.{arith}
 use lib.ListN.{length, take}
-use Rattle.wire.specs.declared.order.Ordering.{Ordering}
-use Rattle.wire.specs.declared.order.Ordering.TheVariants.{Less, Equal, Greater}
+use Rattle.std.specs.declared.cmp.Ordering.{Ordering}
+use Rattle.std.specs.declared.cmp.Ordering.TheVariants.{Less, Equal, Greater}
 use Rattle.wire.specs.Number.{edge}
 use Rattle.wire.specs.Orders.{by_number, cmp_n, same-N}
 use Rattle.wire.specs.Maps.{get}
@@ -60,20 +60,20 @@ top-pass k [] = refl
 top-pass k (s ∷ ss) = refl
 
 -- where no inode is left, none is on top
-top-end : (ss : List (List Row)) → least_key by_number ss ≡ none → top_of ss ≡ []
+top-end : (ss : List (List Row)) → least_key by_number ss ≡ None → top_of ss ≡ []
 unfolding least_key
 top-end [] h = refl
 top-end ([] ∷ ss) h = refl
 top-end ((u ∷ s) ∷ ss) h = go (least_key by_number ss) h
   where
-    pick : (b : ℕ) (d : Ordering) → pick_key by_number d u.0 b ≡ none → u ∷ s ≡ []
+    pick : (b : ℕ) (d : Ordering) → pick_key by_number d u.0 b ≡ None → u ∷ s ≡ []
     pick b Less h = cc
     pick b Equal h = cc
     pick b Greater h = cc
 
-    go : (o : Option ℕ) → lower by_number (some u.0) o ≡ none → u ∷ s ≡ []
-    go none h = cc
-    go (some b) h = pick b (cmp_n u.0 b) h
+    go : (o : Option ℕ) → lower by_number (Some u.0) o ≡ None → u ∷ s ≡ []
+    go None h = cc
+    go (Some b) h = pick b (cmp_n u.0 b) h
 
 none-records : (l : List (ℕ × Record)) → records l ≡ [] → l ≡ []
 none-records [] h = refl
@@ -93,7 +93,7 @@ module _ (b : Base) (ls : List Layer) (l : Layer) where
   bytes_of rows = rows_bytes inode layer_record (normal_rows b ls rows)
 
   abbrev Found : ℕ × Record → Type 0
-  Found e = get by_number e.0 l ≡ some e.1
+  Found e = get by_number e.0 l ≡ Some e.1
 
   -- the rows that are left of the layer
   pub record RowsLeft (img old : List ℕ) (at : ℕ) (rest : Walk) (buf : List ℕ) (next : ℕ) : Type 0 where
@@ -114,7 +114,7 @@ module _ (b : Base) (ls : List Layer) (l : Layer) where
   }
 
   -- the topmost record of an inode, over the others
-  stack_top : (k : ℕ) (r : Record) (p : Pieces) → get by_number k l ≡ some r → Is b (ls ++ (l ∷ [])) (k, p) → p ≡ (r ∷ stack k ls, get by_number k b)
+  stack_top : (k : ℕ) (r : Record) (p : Pieces) → get by_number k l ≡ Some r → Is b (ls ++ (l ∷ [])) (k, p) → p ≡ (r ∷ stack k ls, get by_number k b)
   unfolding stack_on
   stack_top k r p g i = i.pieces ∙ rw (stack-append, g)
 

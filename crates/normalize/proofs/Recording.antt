@@ -1,7 +1,7 @@
 -- What is written of a record that is held against its stack below.
 -- Assumes nothing.
+use Rattle.std.specs.Prelude.{None, Option, Some}
 use mathlib.Core.Path.{◌≡◌, refl, sym, ap, ◌∙◌, subst, fun_ext}
-use mathlib.Core.Option.{Option, none, some}
 use mathlib.Core.Bool.{true, false}
 use mathlib.Core.List.{List, [], ◌∷◌, ◌++◌, append_assoc, append-nil}
 use Prim.Native.Nat.{ℕ, zero, suc, ◌+◌, ◌-◌, ◌≤◌, ◌<◌}
@@ -28,7 +28,6 @@ use Rattle.image.specs.Places.{Ends}
 use Rattle.image.specs.declared.name.Under.TheVariants as U
 use Rattle.survey.specs.declared.batch.InodeLayerStack.{InodeLayerStack}
 use Rattle.image.proofs.Passing.{ends-got, ends-fault}
-use Rattle.nodes.specs.Options.{number_of}
 use Rattle.nodes.specs.Attrs.{fields_meant}
 use Rattle.nodes.specs.Listed.{by_name, list_at, Listed}
 use Rattle.deltas.specs.Deltas.{change_meant, entry_meant}
@@ -65,7 +64,7 @@ between_is img place q w x h = rw x (take_at w (drop q img) (q - place) (omega (
 -- ---- a directory delta
 
 directory-bytes : (f : Fields) (p : Option ℕ) (a : Entries) (r : Names)
-    → layer_record.write (delta (record { fields = f; change = directory p a r })) ≡ (code.write (some Kind.directory) ++ (fields.write f ++ (maybe inode).write p)) ++ (entries.write a ++ names.write r)
+    → layer_record.write (delta (record { fields = f; change = directory p a r })) ≡ (code.write (Some Kind.directory) ++ (fields.write f ++ (maybe inode).write p)) ++ (entries.write a ++ names.write r)
 unfolding layer_record
 directory-bytes f p a r = simp append_assoc
 
@@ -74,7 +73,7 @@ module _ {img : List ℕ} {place : ℕ} {d : DirectoryDelta} (g : RecordIs img p
   f = fields_meant img d.attr_delta
 
   abbrev p : Option ℕ
-  p = number_of d.parent
+  p = d.parent
 
   abbrev a : Entries
   a = list_at img U.Inode d.added
@@ -83,7 +82,7 @@ module _ {img : List ℕ} {place : ℕ} {d : DirectoryDelta} (g : RecordIs img p
   r = list_at img U.Nothing d.removed
 
   abbrev front : List ℕ
-  front = code.write (some Kind.directory) ++ (fields.write f ++ (maybe inode).write p)
+  front = code.write (Some Kind.directory) ++ (fields.write f ++ (maybe inode).write p)
 
   added-listed : Listed img U.Inode d.added d.removed.start
   added-listed = g.reads.lists.0
@@ -121,17 +120,17 @@ module _ {img : List ℕ} {place : ℕ} {d : DirectoryDelta} (g : RecordIs img p
         same : leads_in img m ≡ (λ name. shown (child name) img s)
         same = fun_ext (λ name. rw (← t.gives) (l.leads name))
 
-        there : Normal s old at q₃ new (some directory)
+        there : Normal s old at q₃ new (Some directory)
         there =
-            subst (λ (B : Text → Option ℕ). Put old at (layer_record.write (delta (record { fields = f; change = normal_directory B (some directory) p a r }))) q₃ new) same
+            subst (λ (B : Text → Option ℕ). Put old at (layer_record.write (delta (record { fields = f; change = normal_directory B (Some directory) p a r }))) q₃ new) same
             (rw directory-bytes (put-append (rw front_bytes at h) (put-append u v)))
 
         go : (k : Option Kind) → is_directory k ≡ true → Normal s old at q₃ new k
-        go none e = absurd (let z : ◌≡◌ {A = ℕ} 0 1 = cc in omega arith)
-        go (some directory) e = there
-        go (some file) e = absurd (let z : ◌≡◌ {A = ℕ} 0 1 = cc in omega arith)
-        go (some symlink) e = absurd (let z : ◌≡◌ {A = ℕ} 0 1 = cc in omega arith)
-        go (some (special x)) e = absurd (let z : ◌≡◌ {A = ℕ} 0 1 = cc in omega arith)
+        go None e = absurd (let z : ◌≡◌ {A = ℕ} 0 1 = cc in omega arith)
+        go (Some directory) e = there
+        go (Some file) e = absurd (let z : ◌≡◌ {A = ℕ} 0 1 = cc in omega arith)
+        go (Some symlink) e = absurd (let z : ◌≡◌ {A = ℕ} 0 1 = cc in omega arith)
+        go (Some (special x)) e = absurd (let z : ◌≡◌ {A = ℕ} 0 1 = cc in omega arith)
 
     -- "not existing or not a directory, removed is emptied"
     pub normal-none : is_directory (shown type img s) ≡ false → Put b₁ q₁ (between img d.added.start d.removed.start) q₂ b₂ → Put b₂ q₂ (number_bytes 0) q₃ new
@@ -143,11 +142,11 @@ module _ {img : List ℕ} {place : ℕ} {d : DirectoryDelta} (g : RecordIs img p
         there = rw (directory-bytes, append-nil) (put-append (rw front_bytes at h) (put-append (rw entries-bytes at u) v))
 
         go : (k : Option Kind) → is_directory k ≡ false → Normal s old at q₃ new k
-        go none e = there
-        go (some directory) e = absurd (let z : ◌≡◌ {A = ℕ} 0 1 = cc in omega arith)
-        go (some file) e = there
-        go (some symlink) e = there
-        go (some (special x)) e = there
+        go None e = there
+        go (Some directory) e = absurd (let z : ◌≡◌ {A = ℕ} 0 1 = cc in omega arith)
+        go (Some file) e = there
+        go (Some symlink) e = there
+        go (Some (special x)) e = there
 
 -- another kind stays as it is
 other-normal : (img : List ℕ) (n : NodeDelta) → OneOf not_directory (tag_of delta-type.the_type n) → (B : Text → Option ℕ) (k : Option Kind)

@@ -1,6 +1,5 @@
 -- A record held against its stack below. Document 01: "Each directory delta there is held against the layers below."
-use Rattle.std.specs.Prelude.{Bool, true, false, List, [], ◌∷◌, ℕ}
-use Rattle.std.proofs.Math.Option.{Option, none, some}
+use Rattle.std.specs.Prelude.{Bool, true, false, List, [], ◌∷◌, ℕ, None, Option, Some}
 use Rattle.image.specs.Meaning.{Kind, Node, Record, directory, file, symlink, special, tombstone}
 use Rattle.survey.specs.declared.batch.InodeLayerStack.{InodeLayerStack}
 use Rattle.rules.specs.Reads.{look, type, child}
@@ -13,11 +12,11 @@ use Rattle.deltas.specs.declared.delta.EntryDelta.{EntryDelta}
 use Rattle.walk.specs.Walks.{Pieces}
 
 abbrev pub is_directory : Option Kind → Bool
-is_directory none = false
-is_directory (some directory) = true
-is_directory (some file) = false
-is_directory (some symlink) = false
-is_directory (some (special s)) = false
+is_directory None = false
+is_directory (Some directory) = true
+is_directory (Some file) = false
+is_directory (Some symlink) = false
+is_directory (Some (special s)) = false
 
 -- held against a stack in the image
 abbrev pub normal_in : List ℕ → InodeLayerStack → Record → Record

@@ -18,16 +18,16 @@ use keep::below::names_in;
 use keep::keep::put_kept_list;
 use merge::merge::settle;
 use passes::record::pass_record;
-use stack::file_type::{OptionType, type_in};
+use stack::file_type::type_in;
 use stack::stack::record_at;
 use survey::batch::InodeLayerStack;
 use wire::cursor::{Cursor, place_at};
 use wire::number::put_number;
 
-fn is_directory(found: OptionType) -> bool
+fn is_directory(found: Option<FileType>) -> bool
     ensures { result ≡ is_directory (type_of found) }
 {
-    let OptionType::Some(file_type) = found else {
+    let Some(file_type) = found else {
         return false;
     };
     match file_type {

@@ -1,9 +1,9 @@
 -- Changes of one inode's live record: "Insert replaces the live record", "Tombstone replaces it too".
 -- Assumes nothing.
+use Rattle.std.specs.Prelude.{None, Option, Some}
 use mathlib.Core.Path.{◌≡◌, refl, sym, ap, ◌∙◌}
 use mathlib.Core.Bool.{Bool, true, false, not}
 use mathlib.Core.List.{List, [], ◌∷◌, ◌++◌, append_assoc, append-nil}
-use mathlib.Core.Option.{Option, none, some}
 use Prim.Native.Nat.{ℕ, ◌<◌}
 use native.Mathlib.Omega.{arith}
 use lib.ListN.{length, drop, length-drop, drop_of_length-le}
@@ -60,15 +60,15 @@ use Rattle.image.proofs.OneForm.{layer_record-one}
 -- ---- whether one construct was given, and no more
 
 module _ {A : Type 0} (c : Codec A) {given : List ℕ} {a : A} {q : ℕ} (r : Reads given c.read (At 0) a (At q)) where
-  pub read_whole : q ≡ length given → if_read (decode c given) ≡ some a
+  pub read_whole : q ≡ length given → if_read (decode c given) ≡ Some a
   unfolding decode
   read_whole h = rw (r.same, drop_of_length-le given {i = q} (omega (arith, h)))
 
-  pub read-longer : (q ≡ length given → ⊥) → if_read (decode c given) ≡ none
+  pub read-longer : (q ≡ length given → ⊥) → if_read (decode c given) ≡ None
   unfolding decode
   read-longer h = rw r.same (go (drop q given) (omega (arith, h, r.within, length-drop q given)))
     where
-      go : (t : List ℕ) → 0 < length t → if_read (whole (got a t)) ≡ none
+      go : (t : List ℕ) → 0 < length t → if_read (whole (got a t)) ≡ None
       go [] h = absurd (omega arith)
       go (x ∷ t) h = refl
 
@@ -79,20 +79,20 @@ module _ {given : List ℕ} {a : Record} {next : Cursor} (r : Reads given layer_
   given-broken e = rw (rw e at r).same
 
   module _ {q : ℕ} (e : next ≡ At q) where
-    given-whole : q ≡ length given → given_record given ≡ some a
+    given-whole : q ≡ length given → given_record given ≡ Some a
     given-whole = read_whole layer_record (rw e at r)
 
-    given-longer : (q ≡ length given → ⊥) → given_record given ≡ none
+    given-longer : (q ≡ length given → ⊥) → given_record given ≡ None
     given-longer = read-longer layer_record (rw e at r)
 
-    given-by-end : no_delta (some a) ≡ false → not (eqb q (length given)) ≡ no_delta (given_record given)
+    given-by-end : no_delta (Some a) ≡ false → not (eqb q (length given)) ≡ no_delta (given_record given)
     given-by-end h = go (eqb q (length given)) refl
       where
         go : (b : Bool) → eqb q (length given) ≡ b → not b ≡ no_delta (given_record given)
         go true d = rw (given-whole (eqb-true q (length given) d)) (sym h)
         go false d = rw (given-longer (eqb-false q (length given) d))
 
-    given-by-none : no_delta (some a) ≡ true → true ≡ no_delta (given_record given)
+    given-by-none : no_delta (Some a) ≡ true → true ≡ no_delta (given_record given)
     given-by-none h = go (eqb q (length given)) refl
       where
         go : (b : Bool) → eqb q (length given) ≡ b → true ≡ no_delta (given_record given)
@@ -114,7 +114,7 @@ unfolding layer_record code number_bytes groups
 tombstone-bytes = refl
 
 -- what is written of a record and its inode
-pub row-bytes : (i : ℕ) (r : Record) → number_bytes i ++ layer_record.write r ≡ rows_bytes inode layer_record (row_if by_number i (some r))
+pub row-bytes : (i : ℕ) (r : Record) → number_bytes i ++ layer_record.write r ≡ rows_bytes inode layer_record (row_if by_number i (Some r))
 unfolding rows_bytes
 row-bytes i r = sym (append-nil (number_bytes i ++ layer_record.write r))
 
@@ -150,11 +150,11 @@ module _ {img : List ℕ} {p : Sections} {s : Store} (w : Stands img p s) where
 
     pub replaced-image : (given newName : List ℕ) (r : NewRecord) (new : Record)
         → record_row img given newName (replaced_of cut i r).edit ≡ number_bytes i ++ layer_record.write new
-        → one_image img given newName p (replaced_of cut i r) ≡ write_image (set_live (put by_number i (some new) s.live) s)
+        → one_image img given newName p (replaced_of cut i r) ≡ write_image (set_live (put by_number i (Some new) s.live) s)
     unfolding edit_rows
     replaced-image given newName r new e =
-        cut-image given newName (count_after cut.count cut.place true) r (some new)
-        (count-more by_number inode layer_record is_cut s.live.rising [] tt (some new) is_cut.count) (e ∙ row-bytes i new)
+        cut-image given newName (count_after cut.count cut.place true) r (Some new)
+        (count-more by_number inode layer_record is_cut s.live.rising [] tt (Some new) is_cut.count) (e ∙ row-bytes i new)
 
     pub unchanged-image : (given newName : List ℕ) (o : Option Record) → get by_number i s.live ≡ o
         → one_image img given newName p (unchanged_of cut i) ≡ write_image (set_live (put by_number i o s.live) s)

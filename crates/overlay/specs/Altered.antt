@@ -1,6 +1,5 @@
 -- What the new image of a change is: that of the store with live records changed.
-use Rattle.std.specs.Prelude.{◌≡◌, List, ℕ}
-use Rattle.std.proofs.Math.Option.{Option}
+use Rattle.std.specs.Prelude.{◌≡◌, List, ℕ, Option}
 use Rattle.image.specs.Meaning.{Record, Store}
 use Rattle.image.specs.RoundTrip.{write_image}
 use Rattle.rules.specs.Queue.{on_live}

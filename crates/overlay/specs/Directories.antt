@@ -1,7 +1,7 @@
 -- The live directory delta of an inode. Document 01: "Add entry, remove entry and set parent act on the live directory delta, making an empty
 -- one if there is no live record; on a live record of another sort they do nothing."
-use Rattle.std.specs.Prelude.{◌≡◌, List, ℕ}
-use Rattle.std.proofs.Math.Option.{Option, some}
+use Rattle.nodes.specs.declared.part.Part.{Part}
+use Rattle.std.specs.Prelude.{◌≡◌, List, ℕ, None, Option, Some}
 use Rattle.wire.specs.Orders.{by_bytes}
 use Rattle.wire.specs.Maps.{Map, empty}
 use Rattle.image.specs.Meaning.{Record, directory}
@@ -10,16 +10,8 @@ use Rattle.image.specs.declared.name.Under.TheVariants as U
 use Rattle.image.specs.Under.{UnderName}
 use Rattle.image.specs.RecordLayout.{layer_record}
 use Rattle.image.specs.Places.{Holds}
-use Rattle.passes.specs.Held.{place_of}
-use Rattle.passes.specs.declared.inode.Place.{Place}
-use Rattle.nodes.specs.Options.{number_of}
 use Rattle.nodes.specs.Listed.{list_at, ListedIf}
 use Rattle.nodes.specs.Attrs.{fields_meant}
-use Rattle.nodes.specs.declared.option.OptionU32.TheVariants as W
-use Rattle.nodes.specs.declared.option.OptionU64.TheVariants as I
-use Rattle.nodes.specs.declared.option.OptionTime.TheVariants as T
-use Rattle.nodes.specs.declared.option.OptionPart.{OptionPart}
-use Rattle.nodes.specs.declared.option.OptionPart.TheVariants as P
 use Rattle.deltas.specs.declared.delta.DirectoryDelta.{DirectoryDelta}
 use Rattle.deltas.specs.declared.delta.NodeDelta.{NodeDelta}
 use Rattle.deltas.specs.declared.delta.NodeDelta.TheVariants.{Directory, File, Symlink, Fifo, CharDevice, BlockDevice, Socket}
@@ -33,14 +25,14 @@ use Rattle.overlay.specs.declared.delta.LiveDirectory.TheVariants as D
 -- ---- what the code makes of a record
 
 abbrev pub whole_of : DirectoryDelta → LiveDelta
-whole_of d = record { attr_delta = d.attr_delta; parent = d.parent; added = P.Some d.added; removed = P.Some d.removed }
+whole_of d = record { attr_delta = d.attr_delta; parent = d.parent; added = Some d.added; removed = Some d.removed }
 
 abbrev pub bare_delta : LiveDelta
 bare_delta = record {
-  attr_delta = record { mode = W.None; uid = W.None; gid = W.None; nlink = W.None; atime = T.None; mtime = T.None; ctime = T.None; created_at = T.None; xattrs = P.None };
-  parent = I.None;
-  added = P.None;
-  removed = P.None;
+  attr_delta = record { mode = None; uid = None; gid = None; nlink = None; atime = None; mtime = None; ctime = None; created_at = None; xattrs = None };
+  parent = None;
+  added = None;
+  removed = None;
 }
 
 abbrev pub node_directory : NodeDelta → LiveDirectory
@@ -59,13 +51,13 @@ directory_of E.Tombstone = D.Other
 -- ---- what it means
 
 -- a list that isn't there is empty
-abbrev pub list_or : List ℕ → (u : Under) → OptionPart → Map by_bytes (UnderName u)
-list_or img u (P.Some p) = list_at img u p
-list_or img u P.None = empty by_bytes
+abbrev pub list_or : List ℕ → (u : Under) → Option Part → Map by_bytes (UnderName u)
+list_or img u (Some p) = list_at img u p
+list_or img u None = empty by_bytes
 
 -- the live record is this directory delta, or there is none
 pub record IsDirectory (img : List ℕ) (d : LiveDelta) (o : Option Record) : Type 0 where
-  pub becomes : (D : DirectoryChange) → on_directory D o ≡ some (on_delta D (fields_meant img d.attr_delta) (directory (number_of d.parent) (list_or img U.Inode d.added) (list_or img U.Nothing d.removed)))
+  pub becomes : (D : DirectoryChange) → on_directory D o ≡ Some (on_delta D (fields_meant img d.attr_delta) (directory d.parent (list_or img U.Inode d.added) (list_or img U.Nothing d.removed)))
   pub attributes : (end : ℕ) × ListedIf img U.Change d.attr_delta.xattrs end
   pub added : (end : ℕ) × ListedIf img U.Inode d.added end
   pub removed : (end : ℕ) × ListedIf img U.Nothing d.removed end
@@ -73,13 +65,13 @@ pub record IsDirectory (img : List ℕ) (d : LiveDelta) (o : Option Record) : Ty
 -- the live record is of another sort
 pub record IsOther (o : Option Record) : Type 0 where
   pub is : Record
-  pub same : o ≡ some is
-  pub stays : (D : DirectoryChange) → on_directory D o ≡ some is
+  pub same : o ≡ Some is
+  pub stays : (D : DirectoryChange) → on_directory D o ≡ Some is
 
 abbrev pub Lives : List ℕ → LiveDirectory → Option Record → Type 0
 Lives img (D.Directory d) o = IsDirectory img d o
 Lives img D.Other o = IsOther o
 
 -- of the record that the place holds
-pub record LivesAt (img : List ℕ) (place : Place) (r : LiveDirectory) : Type 0 where
-  pub lives : (o : Option Record) → Holds img layer_record.read (place_of place) o → Lives img r o
+pub record LivesAt (img : List ℕ) (place : Option ℕ) (r : LiveDirectory) : Type 0 where
+  pub lives : (o : Option Record) → Holds img layer_record.read place o → Lives img r o

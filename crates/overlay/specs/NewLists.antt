@@ -1,10 +1,9 @@
 -- Lists by name with the row of a name changed: parts of the old image, and what is new.
-use Rattle.std.specs.Prelude.{List, [], ◌∷◌, ◌++◌, ℕ}
+use Rattle.nodes.specs.declared.part.Part.{Part}
+use Rattle.std.specs.Prelude.{List, [], ◌∷◌, ◌++◌, ℕ, None, Option, Some}
 use Rattle.wire.specs.Number.{number_bytes}
 use Rattle.wire.specs.Text.{text_bytes}
 use Rattle.nodes.specs.Options.{text_at}
-use Rattle.nodes.specs.declared.option.OptionPart.{OptionPart}
-use Rattle.nodes.specs.declared.option.OptionPart.TheVariants as P
 use Rattle.change.specs.Splices.{Piece, spliced}
 use Rattle.overlay.specs.declared.list.NewRow.{NewRow}
 use Rattle.overlay.specs.declared.list.NewRow.TheVariants as R
@@ -19,9 +18,9 @@ row_bytes given newName R.Absent = []
 row_bytes given newName R.Name = text_bytes given
 row_bytes given newName (R.Entry inode) = text_bytes newName ++ number_bytes inode
 
-abbrev pub kept_of : OptionPart → NewList
-kept_of (P.Some p) = L.Kept p
-kept_of P.None = L.Empty
+abbrev pub kept_of : Option Part → NewList
+kept_of (Some p) = L.Kept p
+kept_of None = L.Empty
 
 -- nothing in place of what stands there
 abbrev pub gap_piece : Gap → Piece

@@ -4,7 +4,6 @@ use Rattle.wire.specs.Number.{number_bytes}
 use Rattle.wire.specs.Put.{Put}
 use Rattle.image.specs.Masks.{maybe}
 use Rattle.image.specs.FieldLayout.{inode}
-use Rattle.nodes.specs.Options.{number_of}
 use Rattle.writers.specs.Writes.{attr_bytes}
 use Rattle.records.specs.Records.{list_bytes as list_if}
 use Rattle.change.specs.Sections.{between}
@@ -52,7 +51,7 @@ module _ (img given newName : List ℕ) where
   abbrev pub directory_bytes : NewDirectory → List ℕ
   directory_bytes n =
       number_bytes 1 ++ (attr_bytes n.attr_delta ++ (list_if img n.attr_delta.xattrs
-      ++ ((maybe inode).write (number_of n.parent) ++ (list_bytes img given newName n.added ++ list_bytes img given newName n.removed))))
+      ++ ((maybe inode).write n.parent ++ (list_bytes img given newName n.added ++ list_bytes img given newName n.removed))))
 
   -- a record, its inode first
   abbrev pub record_row : Edit → List ℕ

@@ -2,19 +2,18 @@
 ghost use Rattle.std.specs.Prelude.{◌≡◌};
 ghost use Rattle.overlay.specs.Directories.{directory_of, node_directory, whole_of, bare_delta, LivesAt};
 
+use nodes::part::Part;
 use deltas::delta::{DirectoryDelta, EntryDelta, NodeDelta, read_entry_delta};
 use nodes::attr::AttrDelta;
-use nodes::option::{OptionPart, OptionTime, OptionU32, OptionU64};
-use passes::inode::Place;
 use wire::cursor::Cursor;
 
 // A directory delta. A list that isn't there is empty.
 #[derive(Clone, Copy)]
 pub struct LiveDelta {
     pub attr_delta: AttrDelta,
-    pub parent: OptionU64,
-    pub added: OptionPart,
-    pub removed: OptionPart,
+    pub parent: Option<u64>,
+    pub added: Option<Part>,
+    pub removed: Option<Part>,
 }
 
 // What add entry, remove entry and set parent act on.
@@ -26,16 +25,16 @@ pub enum LiveDirectory {
 }
 
 // The record at a place; where there is none, an empty directory delta.
-pub fn live_directory(img: &[u8], place: Place) -> LiveDirectory
+pub fn live_directory(img: &[u8], place: Option<usize>) -> LiveDirectory
     ensures { LivesAt img.now place result }
 {
     match place {
-        Place::At(at) => {
+        Some(at) => {
             let read = read_entry_delta(img, Cursor::At(at));
             let delta = read.delta;
             directory_of(delta)
         }
-        Place::Nowhere => LiveDirectory::Directory(bare_delta()),
+        None => LiveDirectory::Directory(bare_delta()),
     }
 }
 
@@ -73,8 +72,8 @@ fn whole_delta(directory: DirectoryDelta) -> LiveDelta
     LiveDelta {
         attr_delta,
         parent,
-        added: OptionPart::Some(added),
-        removed: OptionPart::Some(removed),
+        added: Some(added),
+        removed: Some(removed),
     }
 }
 
@@ -83,20 +82,20 @@ fn bare_delta() -> LiveDelta
     ensures { result ≡ bare_delta }
 {
     let attr_delta = AttrDelta {
-        mode: OptionU32::None,
-        uid: OptionU32::None,
-        gid: OptionU32::None,
-        nlink: OptionU32::None,
-        atime: OptionTime::None,
-        mtime: OptionTime::None,
-        ctime: OptionTime::None,
-        created_at: OptionTime::None,
-        xattrs: OptionPart::None,
+        mode: None,
+        uid: None,
+        gid: None,
+        nlink: None,
+        atime: None,
+        mtime: None,
+        ctime: None,
+        created_at: None,
+        xattrs: None,
     };
     LiveDelta {
         attr_delta,
-        parent: OptionU64::None,
-        added: OptionPart::None,
-        removed: OptionPart::None,
+        parent: None,
+        added: None,
+        removed: None,
     }
 }

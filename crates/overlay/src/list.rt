@@ -4,7 +4,6 @@ ghost use Rattle.wire.specs.Put.{Put};
 ghost use Rattle.overlay.specs.NewLists.{row_bytes, changed_bytes, list_bytes, kept_of};
 
 use change::copy::put_between;
-use nodes::option::OptionPart;
 use nodes::part::Part;
 use wire::number::put_number;
 use wire::put::put_part;
@@ -50,12 +49,12 @@ pub enum NewList {
 }
 
 // A list as it is.
-pub fn kept(list: OptionPart) -> NewList
+pub fn kept(list: Option<Part>) -> NewList
     ensures { result ≡ kept_of list }
 {
     match list {
-        OptionPart::Some(part) => NewList::Kept(part),
-        OptionPart::None => NewList::Empty,
+        Some(part) => NewList::Kept(part),
+        None => NewList::Empty,
     }
 }
 

@@ -3,14 +3,13 @@ ghost use Rattle.wire.specs.Put.{Put};
 ghost use Rattle.std.specs.Prelude.{◌++◌};
 ghost use Rattle.wire.specs.Combinators.{opt_write};
 ghost use Rattle.image.specs.FieldLayout.{inode as inodeCodec};
-ghost use Rattle.nodes.specs.Options.{number_of};
 ghost use Rattle.overlay.specs.NewRecords.{directory_bytes, bare_bytes, change_bytes, updated_bytes, lead_bytes, edit_bytes};
 
+use nodes::part::Part;
 use crate::list::{NewList, put_list};
 use change::copy::put_between;
 use meld::merged::put_changes;
 use nodes::attr::AttrDelta;
-use nodes::option::{OptionPart, OptionU64};
 use records::write_node::put_list_if;
 use wire::number::put_number;
 use wire::put::put_bytes;
@@ -21,7 +20,7 @@ use writers::write_attr::put_attr_delta;
 #[derive(Clone, Copy)]
 pub struct NewDirectory {
     pub attr_delta: AttrDelta,
-    pub parent: OptionU64,
+    pub parent: Option<u64>,
     pub added: NewList,
     pub removed: NewList,
 }
@@ -40,8 +39,8 @@ pub enum NewChange {
 pub struct Updated {
     pub code: u64,
     pub attr_delta: AttrDelta,
-    pub new: OptionPart,
-    pub old: OptionPart,
+    pub new: Option<Part>,
+    pub old: Option<Part>,
     pub change: NewChange,
 }
 
@@ -177,14 +176,14 @@ fn put_row_start(
     img: &[u8],
     lead: Lead,
     row: usize,
-    inode: OptionU64,
+    inode: Option<u64>,
 ) -> usize
-    ensures { Put buf.old at (lead_bytes img.now lead row ++ opt_write inodeCodec (number_of inode)) result buf.new }
+    ensures { Put buf.old at (lead_bytes img.now lead row ++ opt_write inodeCodec inode) result buf.new }
 {
     let start = put_lead(buf, at, img, lead, row);
     match inode {
-        OptionU64::Some(number) => put_number(buf, start, number),
-        OptionU64::None => start,
+        Some(number) => put_number(buf, start, number),
+        None => start,
     }
 }
 
@@ -201,10 +200,10 @@ pub fn put_edit(
     ensures { Put buf.old at (edit_bytes img.now given.now new_name.now lead edit) result buf.new }
 {
     let new = edit.new;
-    let inode = OptionU64::Some(edit.inode);
+    let inode = Some(edit.inode);
     match new {
         NewRecord::Same => {
-            let row = put_row_start(buf, at, img, lead, edit.row, OptionU64::None);
+            let row = put_row_start(buf, at, img, lead, edit.row, None);
             put_between(buf, row, img, edit.row, edit.after)
         }
         NewRecord::Tombstone => {

@@ -20,16 +20,9 @@ pub enum Held {
     Record,
 }
 
-// Where something stands in the image, if it does.
-#[derive(Clone, Copy)]
-pub enum Place {
-    At(usize),
-    Nowhere,
-}
-
 #[derive(Clone, Copy)]
 pub struct InodeRead {
-    pub place: Place,
+    pub place: Option<usize>,
     pub next: Cursor,
 }
 
@@ -61,14 +54,14 @@ fn pass_held(img: &[u8], at: Cursor, what: Held) -> Cursor
     }
 }
 
-fn or_here(place: Place, here: Cursor, same: bool) -> Place
+fn or_here(place: Option<usize>, here: Cursor, same: bool) -> Option<usize>
     ensures { result ≡ or_here place here same }
 {
     match place {
-        Place::At(p) => Place::At(p),
-        Place::Nowhere => match here {
-            Cursor::At(p) => { if same { Place::At(p) } else { Place::Nowhere } }
-            Cursor::Stop(_) => Place::Nowhere,
+        Some(p) => Some(p),
+        None => match here {
+            Cursor::At(p) => { if same { Some(p) } else { None } }
+            Cursor::Stop(_) => None,
         },
     }
 }
@@ -82,7 +75,7 @@ pub fn find_inode(img: &[u8], at: Cursor, what: Held, sought: u64) -> InodeRead
     match next {
         Cursor::At(first) => find_from(img, first, count.value, what, sought),
         Cursor::Stop(fault) => InodeRead {
-            place: Place::Nowhere,
+            place: None,
             next: Cursor::Stop(fault),
         },
     }
@@ -97,14 +90,14 @@ fn find_from(img: &[u8], first: usize, count: u64, what: Held, sought: u64) -> I
     let mut here = first;
     let mut any = false;
     let mut before: u64 = 0;
-    let mut place = Place::Nowhere;
+    let mut place = None;
     while 0 < left {
         let inode = inode_after(img, Cursor::At(here), any, before);
         let start = inode.next;
         let next = pass_held(img, start, what);
         let Cursor::At(end) = next else {
             return InodeRead {
-                place: Place::Nowhere,
+                place: None,
                 next,
             };
         };

@@ -1,9 +1,9 @@
 -- Freeze: its refusals in order, and live as one batch more.
 -- Assumes nothing.
+use Rattle.std.specs.Prelude.{None}
 use mathlib.Core.Path.{◌≡◌, refl, sym, ap, ◌∙◌}
 use mathlib.Core.Bool.{true, false}
 use mathlib.Core.List.{List, [], ◌∷◌, ◌++◌, append-nil, append_assoc}
-use mathlib.Core.Option.{none}
 use Prim.Native.Nat.{ℕ, zero, suc, ◌+◌, ◌≤◌, ◌<◌}
 use native.Mathlib.Omega.{arith}
 use lib.ListN.{length, drop, length-append, drop_of_length-le}
@@ -112,7 +112,7 @@ module _ {img : List ℕ} {p : Sections} {s : Store} (w : Stands img p s) (depth
       live-count : m ≡ length s.live.rows
       live-count =
           (span-reads (number_to last_count refl)
-          (span-front (number_bytes (length s.live.rows)) (chain_write (row by_number inode layer_record) (onto by_number inode layer_record) none s.live.rows) w.live)
+          (span-front (number_bytes (length s.live.rows)) (chain_write (row by_number inode layer_record) (onto by_number inode layer_record) None s.live.rows) w.live)
           (omega (arith, (stands-fits w).live.count)) after l.reads).0
 
       pub freeze-empty : {old : List ℕ} → m ≡ 0 → Changes (freeze_live usual img depth bytes operations time (length old)) old (A.Refused 7) old

@@ -1,5 +1,7 @@
 -- What is written of a record or node whose lists stand in the image is what the layout writes.
 -- Assumes nothing.
+use Rattle.nodes.specs.declared.part.Part.{Part}
+use Rattle.std.specs.Prelude.{None, Option, Some}
 use mathlib.Core.Path.{◌≡◌, refl, sym}
 use mathlib.Core.List.{List, ◌++◌, append_assoc, append-nil}
 use Prim.Native.Nat.{ℕ, suc}
@@ -17,8 +19,6 @@ use Rattle.nodes.specs.Nodes.{body_meant, node_meant, EntriesListed}
 use Rattle.writers.specs.Writes.{attr_bytes, meta_bytes, fields-bytes}
 use Rattle.writers.proofs.Written.{meta-bytes}
 use Rattle.records.specs.Records.{list_bytes, change_bytes, entry_bytes, body_bytes, node_bytes}
-use Rattle.nodes.specs.declared.option.OptionPart.{OptionPart}
-use Rattle.nodes.specs.declared.option.OptionPart.TheVariants as P
 use Rattle.deltas.specs.declared.delta.NodeDelta.{NodeDelta}
 use Rattle.deltas.specs.declared.delta.NodeDelta.TheVariants.{Directory, File, Symlink, Fifo, CharDevice, BlockDevice, Socket}
 use Rattle.deltas.specs.declared.delta.EntryDelta.{EntryDelta}
@@ -29,9 +29,9 @@ use Rattle.nodes.specs.declared.node.Node.{Node}
 use Rattle.writers.proofs.Writing.{list_written}
 
 module _ (img : List ℕ) (end : ℕ) where
-  pub list-bytes : (o : OptionPart) → ListedIf img U.Change o end → list_bytes img o ≡ opt_write changes (list_of img U.Change o)
-  list-bytes (P.Some p) h = list_written U.Change h
-  list-bytes P.None h = refl
+  pub list-bytes : (o : Option Part) → ListedIf img U.Change o end → list_bytes img o ≡ opt_write changes (list_of img U.Change o)
+  list-bytes (Some p) h = list_written U.Change h
+  list-bytes None h = refl
 
   change-bytes : (n : NodeDelta) → ChangeListed img n end → change_bytes img n ≡ (change_part (changed_kind (change_meant img n))).write (change_part_of (change_meant img n))
   change-bytes (Directory d) h = rw (list_written U.Inode h.0, list_written U.Nothing h.1, append_assoc) refl

@@ -1,16 +1,15 @@
 -- What the writers of whole records and nodes write: the fields by value, the lists and texts as they stand in the image.
-use Rattle.std.specs.Prelude.{List, [], ◌++◌, ℕ, suc}
+use Rattle.nodes.specs.declared.part.Part.{Part}
+use Rattle.std.specs.Prelude.{List, [], ◌++◌, ℕ, suc, None, Option, Some}
 use Rattle.wire.specs.Number.{number_bytes}
 use Rattle.wire.specs.Text.{text_bytes}
 use Rattle.image.specs.Meaning.{kind_number, kind_of, changed_kind}
 use Rattle.image.specs.Masks.{maybe}
 use Rattle.image.specs.FieldLayout.{inode, size, target}
-use Rattle.nodes.specs.Options.{number_of, text_at, text_of}
+use Rattle.nodes.specs.Options.{text_at, text_of}
 use Rattle.deltas.specs.Deltas.{attr_of, change_meant}
 use Rattle.nodes.specs.Nodes.{body_meant}
 use Rattle.writers.specs.Writes.{attr_bytes, meta_bytes}
-use Rattle.nodes.specs.declared.option.OptionPart.{OptionPart}
-use Rattle.nodes.specs.declared.option.OptionPart.TheVariants as P
 use Rattle.deltas.specs.declared.delta.DirectoryDelta.{DirectoryDelta}
 use Rattle.deltas.specs.declared.delta.NodeDelta.{NodeDelta}
 use Rattle.deltas.specs.declared.delta.NodeDelta.TheVariants.{Directory, File, Symlink, Fifo, CharDevice, BlockDevice, Socket}
@@ -21,18 +20,18 @@ use Rattle.nodes.specs.declared.node.NodeKind.TheVariants as K
 use Rattle.nodes.specs.declared.node.Node.{Node}
 
 module _ (img : List ℕ) where
-  abbrev pub list_bytes : OptionPart → List ℕ
-  list_bytes (P.Some p) = text_at img p
-  list_bytes P.None = []
+  abbrev pub list_bytes : Option Part → List ℕ
+  list_bytes (Some p) = text_at img p
+  list_bytes None = []
 
   -- "directory: 0 or 1 and parent, added, removed"
   abbrev pub directory_bytes : DirectoryDelta → List ℕ
-  directory_bytes d = (maybe inode).write (number_of d.parent) ++ text_at img d.added ++ text_at img d.removed
+  directory_bytes d = (maybe inode).write d.parent ++ text_at img d.added ++ text_at img d.removed
 
   -- "file: 0 or 1 and size; symlink: 0 or 1 and target; other four: device"
   abbrev pub change_bytes : NodeDelta → List ℕ
   change_bytes (Directory d) = directory_bytes d
-  change_bytes (File d) = (maybe size).write (number_of d.size)
+  change_bytes (File d) = (maybe size).write d.size
   change_bytes (Symlink d) = (maybe target).write (text_of img d.target)
   change_bytes (Fifo d) = number_bytes d.rdev
   change_bytes (CharDevice d) = number_bytes d.rdev

@@ -6,9 +6,9 @@ ghost use Rattle.deltas.specs.Deltas.{change_meant};
 ghost use Rattle.nodes.specs.Nodes.{body_meant};
 ghost use Rattle.records.specs.Records.{list_bytes, directory_bytes, change_bytes, entry_bytes, body_bytes, node_bytes};
 
+use nodes::part::Part;
 use deltas::delta::{DirectoryDelta, EntryDelta, NodeDelta, attr_delta};
 use nodes::node::{Node, NodeKind};
-use nodes::option::OptionPart;
 use wire::number::put_number;
 use wire::put::put_part;
 use writers::write::{put_maybe_number, put_maybe_part, put_text_part};
@@ -47,12 +47,12 @@ fn delta_code(delta: NodeDelta) -> u64
 }
 
 // Copies a list, if it is there.
-pub fn put_list_if(buf: &mut [u8], at: usize, img: &[u8], option: OptionPart) -> usize
+pub fn put_list_if(buf: &mut [u8], at: usize, img: &[u8], option: Option<Part>) -> usize
     ensures { Put buf.old at (list_bytes img.now option) result buf.new }
 {
     match option {
-        OptionPart::Some(list) => put_part(buf, at, img, list.start, list.length),
-        OptionPart::None => at,
+        Some(list) => put_part(buf, at, img, list.start, list.length),
+        None => at,
     }
 }
 

@@ -1,7 +1,7 @@
 -- The lists of a stack, as sources from the top, decide what its listing shows.
 -- Assumes nothing.
+use Rattle.std.specs.Prelude.{None, Option, Some}
 use mathlib.Core.Path.{◌≡◌, refl, sym, ap, ◌∙◌}
-use mathlib.Core.Option.{Option, none, some}
 use mathlib.Core.List.{List, [], ◌∷◌, ◌++◌, map}
 use Prim.Native.Nat.{ℕ}
 use Rattle.wire.specs.Orders.{by_bytes}
@@ -37,36 +37,36 @@ abbrev merges : List Deciding → Started Given
 merges cs = merged by_bytes (itself by_bytes) cs
 
 -- a source over nothing
-merge-alone : {A : Type 0} (f : A → ℕ × Given) (m : Map by_bytes A) → merge by_bytes (itself by_bytes) (map_values by_bytes (λ a. some (f a)) m) (empty by_bytes) ≡ map_values by_bytes f m
+merge-alone : {A : Type 0} (f : A → ℕ × Given) (m : Map by_bytes A) → merge by_bytes (itself by_bytes) (map_values by_bytes (λ a. Some (f a)) m) (empty by_bytes) ≡ map_values by_bytes f m
 merge-alone {A} f m =
-    map-ext by_bytes (merge by_bytes (itself by_bytes) (map_values by_bytes (λ a. some (f a)) m) (empty by_bytes)) (map_values by_bytes f m) (λ k.
+    map-ext by_bytes (merge by_bytes (itself by_bytes) (map_values by_bytes (λ a. Some (f a)) m) (empty by_bytes)) (map_values by_bytes f m) (λ k.
     simp (get-merge, get-map, get-empty) (go (get by_bytes k m)))
   where
-    go : (o : Option A) → meet (itself by_bytes []) (map_if (λ a. some (f a)) o) none ≡ map_if f o
-    go none = refl
-    go (some a) = refl
+    go : (o : Option A) → meet (itself by_bytes []) (map_if (λ a. Some (f a)) o) None ≡ map_if f o
+    go None = refl
+    go (Some a) = refl
 
 -- removed names, whose starts nothing shows
-merge-removed : (q : ℕ) (removed : Names) (x : Started Given) → merge by_bytes (itself by_bytes) (source_of U.Nothing q removed) x ≡ merge by_bytes (λ name u old. none) removed x
+merge-removed : (q : ℕ) (removed : Names) (x : Started Given) → merge by_bytes (itself by_bytes) (source_of U.Nothing q removed) x ≡ merge by_bytes (λ name u old. None) removed x
 merge-removed q removed x =
-    map-ext by_bytes (merge by_bytes (itself by_bytes) (source_of U.Nothing q removed) x) (merge by_bytes (λ name u old. none) (forgotten (starts nothing q removed)) x) (λ k.
+    map-ext by_bytes (merge by_bytes (itself by_bytes) (source_of U.Nothing q removed) x) (merge by_bytes (λ name u old. None) (forgotten (starts nothing q removed)) x) (λ k.
     simp (get-merge, get-map) (go k (get by_bytes k (starts nothing q removed))))
-    ∙ ap (λ (r : Names). merge by_bytes (λ name u old. none) r x) (starts-forgotten nothing q removed)
+    ∙ ap (λ (r : Names). merge by_bytes (λ name u old. None) r x) (starts-forgotten nothing q removed)
   where
-    go : (k : Text) (o : Option (ℕ × Unit {0})) → meet (itself by_bytes k) (map_if (decided U.Nothing) o) (get by_bytes k x) ≡ meet (λ u old. none) (map_if (λ y. y.1) o) (get by_bytes k x)
-    go k none = refl
-    go k (some a) = refl
+    go : (k : Text) (o : Option (ℕ × Unit {0})) → meet (itself by_bytes k) (map_if (decided U.Nothing) o) (get by_bytes k x) ≡ meet (λ u old. None) (map_if (λ y. y.1) o) (get by_bytes k x)
+    go k None = refl
+    go k (Some a) = refl
 
 -- names removed, whatever stands under those that stay
 removed-map : {A B : Type 0} (f : A → B) (removed : Names) (x : Map by_bytes A)
-    → merge by_bytes (λ name u old. none) removed (map_values by_bytes f x) ≡ map_values by_bytes f (merge by_bytes (λ name u old. none) removed x)
+    → merge by_bytes (λ name u old. None) removed (map_values by_bytes f x) ≡ map_values by_bytes f (merge by_bytes (λ name u old. None) removed x)
 removed-map {A} {B} f removed x =
-    map-ext by_bytes (merge by_bytes (λ name u old. none) removed (map_values by_bytes f x)) (map_values by_bytes f (merge by_bytes (λ name u old. none) removed x)) (λ k.
+    map-ext by_bytes (merge by_bytes (λ name u old. None) removed (map_values by_bytes f x)) (map_values by_bytes f (merge by_bytes (λ name u old. None) removed x)) (λ k.
     simp (get-merge, get-map) (go (get by_bytes k removed) (get by_bytes k x)))
   where
-    go : (u : Option (Unit {0})) (o : Option A) → meet (λ u old. none) u (map_if f o) ≡ map_if f (meet (λ u old. none) u o)
-    go none o = refl
-    go (some u) o = refl
+    go : (u : Option (Unit {0})) (o : Option A) → meet (λ u old. None) u (map_if f o) ≡ map_if f (meet (λ u old. None) u o)
+    go None o = refl
+    go (Some u) o = refl
 
 -- ---- entries
 
@@ -89,15 +89,15 @@ change-decides p f (directory parent added removed) below es e =
     let q = removed_at p f parent added in
     ap (λ (x : Started Given). merge by_bytes (itself by_bytes) over (merge by_bytes (itself by_bytes) (source_of U.Nothing q removed) x)) e
     ∙ ap (λ (x : Started Given). merge by_bytes (itself by_bytes) over x) (merge-removed q removed (map_values by_bytes inoded es) ∙ removed-map inoded removed es)
-    ∙ sym (map-merge by_bytes inoded (decided U.Inode) (λ name new old. some new) (itself by_bytes) (λ k c o. refl) (starts inode (added_at p f parent) added) (merge by_bytes (λ name u old. none) removed es))
+    ∙ sym (map-merge by_bytes inoded (decided U.Inode) (λ name new old. Some new) (itself by_bytes) (λ k c o. refl) (starts inode (added_at p f parent) added) (merge by_bytes (λ name u old. None) removed es))
 change-decides p f (file n) below es e = e
 change-decides p f (symlink t) below es e = e
 change-decides p f (special s device) below es e = e
 
 entries-decide : (rs : List (Placed Record)) (b : Option (Placed Node)) → merges (pile_of G.Entries rs b) ≡ map_values by_bytes inoded (look_placed placed_entries rs b)
 unfolding look_placed merged
-entries-decide [] none = sym (map-empty by_bytes inoded)
-entries-decide [] (some n) = body-decides n.place n.held.meta n.held.body
+entries-decide [] None = sym (map-empty by_bytes inoded)
+entries-decide [] (Some n) = body-decides n.place n.held.meta n.held.body
 entries-decide (r ∷ rs) b = go r.held (entries-decide rs b)
   where
     go : (h : Record) → merges (pile_of G.Entries rs b) ≡ map_values by_bytes inoded (look_placed placed_entries rs b)
@@ -112,20 +112,20 @@ abbrev zeroed : ℕ × Text → ℕ × Given
 zeroed x = (x.0, (0, x.1))
 
 set-zeroed : (s : ℕ) (o : Option Text) → map_if zeroed (set_start (s, o)) ≡ decided U.Change (s, o)
-set-zeroed s none = refl
-set-zeroed s (some v) = refl
+set-zeroed s None = refl
+set-zeroed s (Some v) = refl
 
 alter-decides : (p : ℕ) (f : Fields) (o : Option Changes) (below : List Deciding) (vs : Started Text) → merges below ≡ map_values by_bytes zeroed vs
     → merges (alter_pile p f o ++ below) ≡ map_values by_bytes zeroed (meet (alter_starts p f) o vs)
 unfolding merged
-alter-decides p f none below vs e = e
-alter-decides p f (some cs) below vs e =
+alter-decides p f None below vs e = e
+alter-decides p f (Some cs) below vs e =
     rw e (sym (map-merge by_bytes zeroed (decided U.Change) (λ name c old. set_start c) (itself by_bytes) (λ k c o. set-zeroed c.0 c.1) (starts (maybe value) (changes_at p f cs) cs) vs))
 
 values-decide : (rs : List (Placed Record)) (b : Option (Placed Node)) → merges (pile_of G.Attributes rs b) ≡ map_values by_bytes zeroed (look_placed placed_values rs b)
 unfolding look_placed merged
-values-decide [] none = sym (map-empty by_bytes zeroed)
-values-decide [] (some n) = merge-alone zeroed (starts value (attributes_at n.place n.held.meta) n.held.meta.attributes)
+values-decide [] None = sym (map-empty by_bytes zeroed)
+values-decide [] (Some n) = merge-alone zeroed (starts value (attributes_at n.place n.held.meta) n.held.meta.attributes)
 values-decide (r ∷ rs) b = go r.held (values-decide rs b)
   where
     go : (h : Record) → merges (pile_of G.Attributes rs b) ≡ map_values by_bytes zeroed (look_placed placed_values rs b)

@@ -1,8 +1,8 @@
 -- What a listing answers, by the attributes and the rows that a stack shows.
 -- Assumes nothing.
+use Rattle.std.specs.Prelude.{None, Option, Some}
 use mathlib.Core.Path.{◌≡◌, refl, ◌∙◌}
 use mathlib.Core.Bool.{Bool, true, false, cond}
-use mathlib.Core.Option.{Option, none, some}
 use mathlib.Core.List.{List, [], ◌∷◌}
 use Prim.Native.Nat.{ℕ}
 use lib.Dec.{ltb}
@@ -52,28 +52,28 @@ other-type K.Socket h = refl
 -- ---- rows in place of names
 
 module _ (lent : ℕ) (rows : List Row) where
-  given : {A : Type 0} (l : List A) (n : ℕ) → length rows ≡ n → map_answer (map_if (λ l. rows)) (unless (first_of ((5, ltb lent n) ∷ [])) (some l)) ≡ room_for lent rows
+  given : {A : Type 0} (l : List A) (n : ℕ) → length rows ≡ n → map_answer (map_if (λ l. rows)) (unless (first_of ((5, ltb lent n) ∷ [])) (Some l)) ≡ room_for lent rows
   given l n e = rw e (go (ltb lent n))
     where
-      go : (b : Bool) → map_answer (map_if (λ l. rows)) (unless (first_of ((5, b) ∷ [])) (some l)) ≡ cond b (refused 5) (answer (some rows))
+      go : (b : Bool) → map_answer (map_if (λ l. rows)) (unless (first_of ((5, b) ∷ [])) (Some l)) ≡ cond b (refused 5) (answer (Some rows))
       go true = refl
       go false = refl
 
   entries-given : (a : Option FileAttr) (es : Entries) → length rows ≡ length es.rows
-      → map_answer (map_if (λ l. rows)) (unless (first_of ((5, few_rows lent (listed a es)) ∷ [])) (rows_of (listed a es))) ≡ cond (is_listed L.Entries a) (room_for lent rows) (answer none)
-  entries-given none es e = refl
-  entries-given (some a) es e = go a.type
+      → map_answer (map_if (λ l. rows)) (unless (first_of ((5, few_rows lent (listed a es)) ∷ [])) (rows_of (listed a es))) ≡ cond (is_listed L.Entries a) (room_for lent rows) (answer None)
+  entries-given None es e = refl
+  entries-given (Some a) es e = go a.type
     where
-      go : (k : Kind) → map_answer (map_if (λ l. rows)) (unless (first_of ((5, few_rows lent (if_directory k es)) ∷ [])) (rows_of (if_directory k es))) ≡ cond (is_directory k) (room_for lent rows) (answer none)
+      go : (k : Kind) → map_answer (map_if (λ l. rows)) (unless (first_of ((5, few_rows lent (if_directory k es)) ∷ [])) (rows_of (if_directory k es))) ≡ cond (is_directory k) (room_for lent rows) (answer None)
       go directory = given es.rows (length es.rows) e
       go file = refl
       go symlink = refl
       go (special s) = refl
 
   names-given : (a : Option FileAttr) (vs : Attributes) → length rows ≡ length vs.rows
-      → map_answer (map_if (λ l. rows)) (unless (first_of ((5, few_rows lent (valued a vs)) ∷ [])) (names_of (valued a vs))) ≡ cond (is_listed L.Attributes a) (room_for lent rows) (answer none)
-  names-given none vs e = refl
-  names-given (some a) vs e = given (name_rows vs.rows) (length vs.rows) e
+      → map_answer (map_if (λ l. rows)) (unless (first_of ((5, few_rows lent (valued a vs)) ∷ [])) (names_of (valued a vs))) ≡ cond (is_listed L.Attributes a) (room_for lent rows) (answer None)
+  names-given None vs e = refl
+  names-given (Some a) vs e = given (name_rows vs.rows) (length vs.rows) e
 
 -- ---- the calls
 
@@ -87,7 +87,7 @@ module _ {img : List ℕ} {i : ℕ} {r : Opened} (o : Opens img i r) (room : ℕ
   listing-refused l z n = rw (refused-listing l z) (plan-none n refl)
 
   module _ (z : r.refusal ≡ 0) where
-    fine-listing : (l : Listing) → list_call l img i room ≡ cond (is_listed l (shown (attributes usual i) img r.stack)) (room_for room (rows_listed l (records_in img r.stack) (node_in img r.stack))) (answer none)
+    fine-listing : (l : Listing) → list_call l img i room ≡ cond (is_listed l (shown (attributes usual i) img r.stack)) (room_for room (rows_listed l (records_in img r.stack) (node_in img r.stack))) (answer None)
     unfolding reply entry_rows attribute_rows
     fine-listing L.Entries =
         let v = opened-store o z in

@@ -1,7 +1,6 @@
 -- What a listing shows, and the lists that decide it. Document 01: "A listing fills a lent row of entries: start of the name in the image,
 -- length, inode." "Attribute names fill rows likewise, by the highest layer that sets the name, inode 0."
-use Rattle.std.proofs.Math.Option.{Option}
-use Rattle.std.specs.Prelude.{List, map}
+use Rattle.std.specs.Prelude.{List, map, Option}
 use Rattle.image.specs.Meaning as M
 use Rattle.rules.specs.Starts.{Placed}
 use Rattle.rules.specs.PlacedReads.{look_placed, placed_entries, placed_values}

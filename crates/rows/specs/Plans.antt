@@ -1,7 +1,6 @@
 -- What a listing answers and fills. Document 01: "A listing fills a lent row of entries: start of the name in the image, length, inode."
 -- "Listings: as reads, last 5 if there are fewer rows than entries." "Rows past the last stay."
-use Rattle.std.specs.Prelude.{◌≡◌, Bool, true, false, cond, List, [], map, ℕ, ◌≤◌, ltb, length}
-use Rattle.std.proofs.Math.Option.{Option, none, some}
+use Rattle.std.specs.Prelude.{◌≡◌, Bool, true, false, cond, List, [], map, ℕ, ◌≤◌, ltb, length, None, Option, Some}
 use Rattle.rules.specs.Answers.{Answer, refused, answer}
 use Rattle.rules.specs.Changes.{map_if}
 use Rattle.rules.specs.ReadCalls.{Row, map_answer, filled, list_directory, list_xattrs}
@@ -32,9 +31,9 @@ is_directory symlink = false
 is_directory (special s) = false
 
 abbrev pub is_listed : Listing → Option FileAttr → Bool
-is_listed l none = false
-is_listed L.Entries (some a) = is_directory a.type
-is_listed L.Attributes (some a) = true
+is_listed l None = false
+is_listed L.Entries (Some a) = is_directory a.type
+is_listed L.Attributes (Some a) = true
 
 -- the call by what it lists
 abbrev pub list_call : Listing → List ℕ → ℕ → ℕ → Answer (Option (List Row))
@@ -43,7 +42,7 @@ list_call L.Attributes img i lent = list_xattrs usual img i lent
 
 -- "5 if there are fewer rows than entries"
 abbrev pub room_for : ℕ → List Row → Answer (Option (List Row))
-room_for room l = cond (ltb room (length l)) (refused 5) (answer (some l))
+room_for room l = cond (ltb room (length l)) (refused 5) (answer (Some l))
 
 -- ---- a plan: what a listing answers, and the rows that it has left to fill
 
@@ -60,8 +59,8 @@ plan_row p = entry_of (row_of_merge p.merge)
 
 abbrev pub answer_of : RowsAnswer → List Row → Answer (Option (List Row))
 answer_of (A.Refused n) l = refused n
-answer_of A.None l = answer none
-answer_of (A.Rows n) l = answer (some l)
+answer_of A.None l = answer None
+answer_of (A.Rows n) l = answer (Some l)
 
 abbrev pub plan_answer : List ℕ → Plan → Answer (Option (List Row))
 plan_answer img p = answer_of p.answer (merge_rows img p.merge)
@@ -90,8 +89,8 @@ pub record Advances (img : List ℕ) (p r : Plan) : Type 0 where
 
 abbrev pub row_count : Answer (Option (List Row)) → ℕ
 row_count (refused n) = 0
-row_count (answer none) = 0
-row_count (answer (some l)) = length l
+row_count (answer None) = 0
+row_count (answer (Some l)) = length l
 
 -- the answer, which says how many rows it fills, with the rows as they are after the call: "Rows past the last stay."
 pub record Filled (w : Answer (Option (List Row))) (old new : List Entry) (a : RowsAnswer) : Type 0 where

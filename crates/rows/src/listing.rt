@@ -9,10 +9,10 @@ ghost use Rattle.rules.specs.ReadCalls.{list_directory, list_xattrs};
 ghost use Rattle.attrs.specs.Meant.{kind_meant};
 ghost use Rattle.layers.specs.Attrs.{attr_if};
 
-use attrs::node::FileType;
+use attrs::node::{FileAttr, FileType};
 use gather::gather::{Lists, gather_sources};
 use layers::answer::RowsAnswer;
-use layers::attr::{OptionAttr, shown_attr};
+use layers::attr::shown_attr;
 use merge::merge::{Counted, Merge, count_rows, no_sources, settle};
 use merge::source::no_value;
 use stack::stack::open_image;
@@ -155,10 +155,10 @@ fn is_directory(kind: FileType) -> bool
 }
 
 // Whether there is a listing: entries are a directory's, attribute names those of any inode with attributes.
-fn is_listed(listing: Listing, attr: OptionAttr) -> bool
+fn is_listed(listing: Listing, attr: Option<FileAttr>) -> bool
     ensures { result ≡ is_listed listing (attr_if attr) }
 {
-    let OptionAttr::Some(shown) = attr else {
+    let Some(shown) = attr else {
         return false;
     };
     let kind = shown.file_type;

@@ -1,6 +1,6 @@
 -- Demand 3 speaks of the worked cases: each call is within its condition, so that every read agrees with the table.
+use Rattle.std.specs.Prelude.{Some}
 use mathlib.Core.Path.{◌≡◌, refl}
-use mathlib.Core.Option.{some}
 use mathlib.Core.List.{[], ◌∷◌, ◌++◌}
 use Rattle.wire.specs.Time.{epoch}
 use Rattle.wire.specs.Rows.{lookup, insert, remove, set}
@@ -42,7 +42,7 @@ front₁ : Layer
 front₁ = (run (Call.tombstone 5 ∷ []) old).live
 
 front₂ : Layer
-front₂ = (run (removed ++ (Call.insert 5 (given-delta no_fields (file (some 3))) ∷ [])) old).live
+front₂ = (run (removed ++ (Call.insert 5 (given-delta no_fields (file (Some 3))) ∷ [])) old).live
 
 allowed : Conditions usual (made settled) old
 unfolding front₁ front₂ after change result look stack_on get put merge over set insert remove lookup empty fold_record same_kind

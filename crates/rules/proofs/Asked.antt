@@ -1,6 +1,6 @@
 -- The calls over bytes answer what demand 3 asks: each is `ask` of the store that the image is read as, rows by the names that they say.
+use Rattle.std.specs.Prelude.{None, Option, Some}
 use mathlib.Core.Path.{◌≡◌, refl, sym, ap, ◌∙◌}
-use mathlib.Core.Option.{Option, none, some}
 use mathlib.Core.List.{List, [], ◌∷◌, map}
 use mathlib.Core.Bool.{Bool, true, false, cond}
 use Prim.Native.Nat.{ℕ, suc, ◌≤◌}
@@ -73,21 +73,21 @@ verdict-fine img v = go (ltb 65536 (length img)) refl (read_image img) refl v
     go false l (fault f) e d = absurd (let z : ◌≡◌ {A = ℕ} 0 1 = cc in omega arith)
     go false l (got s r) e d = (s, read-end img e, ltb-false 65536 (length img) l)
 
-pub number-refused : (v : Verdict) {n : ℕ} → n ≡ refusal_number v → (n ≡ 0 → ⊥) → refusal_of v ≡ some n
+pub number-refused : (v : Verdict) {n : ℕ} → n ≡ refusal_number v → (n ≡ 0 → ⊥) → refusal_of v ≡ Some n
 number-refused D.Fine e z = absurd (z e)
-number-refused D.TooLong e z = ap some (sym e)
-number-refused D.Broken e z = ap some (sym e)
+number-refused D.TooLong e z = ap Some (sym e)
+number-refused D.Broken e z = ap Some (sym e)
 
 pub number-fine : (v : Verdict) {n : ℕ} → n ≡ refusal_number v → n ≡ 0 → v ≡ D.Fine
 number-fine D.Fine e z = refl
 number-fine D.TooLong e z = absurd (omega arith)
 number-fine D.Broken e z = absurd (omega arith)
 
-pub verdict-refused : {A : Type 0} (f : Store → Answer A) (img : List ℕ) (n : ℕ) → refusal_of (verdict_of img) ≡ some n → over_image f img ≡ refused n
+pub verdict-refused : {A : Type 0} (f : Store → Answer A) (img : List ℕ) (n : ℕ) → refusal_of (verdict_of img) ≡ Some n → over_image f img ≡ refused n
 unfolding verdict_of over_image
 verdict-refused f img n v = go (ltb 65536 (length img)) (read_image img) v
   where
-    go : (b : Bool) (o : Parsed Store) → refusal_of (cond b D.TooLong (judge o)) ≡ some n → cond b (refused 1) (of_store f o) ≡ refused n
+    go : (b : Bool) (o : Parsed Store) → refusal_of (cond b D.TooLong (judge o)) ≡ Some n → cond b (refused 1) (of_store f o) ≡ refused n
     go true o e = cc
     go false (fault y) e = cc
     go false (got s r) e = cc
@@ -149,19 +149,19 @@ module _ (img : List ℕ) (rows : List Row) where
   abbrev renamed : Answer (Option (List (Text × ℕ))) → Answer (Option (List (Text × ℕ)))
   renamed a = map_answer (map_if (map (named img))) (map_answer (map_if (λ l. rows)) a)
 
-  given-renamed : (o : Option ℕ) (l : List (Text × ℕ)) → map (named img) rows ≡ l → renamed (unless o (some l)) ≡ unless o (some l)
-  given-renamed none l e = rw e
-  given-renamed (some n) l e = refl
+  given-renamed : (o : Option ℕ) (l : List (Text × ℕ)) → map (named img) rows ≡ l → renamed (unless o (Some l)) ≡ unless o (Some l)
+  given-renamed None l e = rw e
+  given-renamed (Some n) l e = refl
 
   abbrev listing_reply : ℕ → Option Entries → Answer (Option (List (Text × ℕ)))
   listing_reply lent o = unless (first_of ((5, few_rows lent o) ∷ [])) (rows_of o)
 
   listing-renamed : (lent : ℕ) (a : Option FileAttr) (es : Entries) → map (named img) rows ≡ es.rows → renamed (listing_reply lent (listed a es)) ≡ listing_reply lent (listed a es)
-  listing-renamed lent none es e = refl
-  listing-renamed lent (some a) es e = go a.type
+  listing-renamed lent None es e = refl
+  listing-renamed lent (Some a) es e = go a.type
     where
       go : (k : Kind) → renamed (listing_reply lent (if_directory k es)) ≡ listing_reply lent (if_directory k es)
-      go directory = given-renamed (first_of ((5, few_rows lent (some es)) ∷ [])) es.rows e
+      go directory = given-renamed (first_of ((5, few_rows lent (Some es)) ∷ [])) es.rows e
       go file = refl
       go symlink = refl
       go (special x) = refl
@@ -170,8 +170,8 @@ module _ (img : List ℕ) (rows : List Row) where
   names_reply lent o = unless (first_of ((5, few_rows lent o) ∷ [])) (names_of o)
 
   names-renamed : (lent : ℕ) (a : Option FileAttr) (vs : Attributes) → map (named img) rows ≡ name_rows vs.rows → renamed (names_reply lent (valued a vs)) ≡ names_reply lent (valued a vs)
-  names-renamed lent none vs e = refl
-  names-renamed lent (some a) vs e = given-renamed (first_of ((5, few_rows lent (some vs)) ∷ [])) (name_rows vs.rows) e
+  names-renamed lent None vs e = refl
+  names-renamed lent (Some a) vs e = given-renamed (first_of ((5, few_rows lent (Some vs)) ∷ [])) (name_rows vs.rows) e
 
 -- ---- the calls
 

@@ -1,7 +1,7 @@
 -- The worked cases of docs/THEOREM.md: what nobody could test, computed by the definitions. Of each, what the store answers is what the
 -- table answers that was told the calls.
+use Rattle.std.specs.Prelude.{None, Some}
 use mathlib.Core.Path.{refl}
-use mathlib.Core.Option.{none, some}
 use mathlib.Core.List.{List, [], ◌∷◌, ◌++◌}
 use mathlib.Core.Bool.{false}
 use Prim.Native.Nat.{ℕ, zero, suc, ◌+◌}
@@ -54,18 +54,18 @@ counted = Call.note 3 ∷ Call.note 4 ∷ Call.add 1 a 7 epoch ∷ Call.request 
 
 abbrev between : List Claim
 between =
-    claim (ask usual (Ask.listing 1 10) (run queued root)) (answer (some ((a, 7) ∷ (b, 8) ∷ [])))
-    ∷ claim (ask usual (Ask.listing 1 10) (run folded root)) (answer (some ((b, 8) ∷ [])))
-    ∷ claim (ask usual (Ask.listing 1 10) (run popped root)) (answer (some ((b, 8) ∷ [])))
-    ∷ claim (ask_told (Ask.listing 1 10) popped root) (answer (some ((b, 8) ∷ [])))
+    claim (ask usual (Ask.listing 1 10) (run queued root)) (answer (Some ((a, 7) ∷ (b, 8) ∷ [])))
+    ∷ claim (ask usual (Ask.listing 1 10) (run folded root)) (answer (Some ((b, 8) ∷ [])))
+    ∷ claim (ask usual (Ask.listing 1 10) (run popped root)) (answer (Some ((b, 8) ∷ [])))
+    ∷ claim (ask_told (Ask.listing 1 10) popped root) (answer (Some ((b, 8) ∷ [])))
     -- a second freeze finds live empty, a second pop finds no batch
-    ∷ claim (refusal freeze (run (Call.add 1 a 7 epoch ∷ freeze ∷ []) root)) (some 7)
-    ∷ claim (refusal (Call.pop 1) (run popped root)) (some 8)
+    ∷ claim (refusal freeze (run (Call.add 1 a 7 epoch ∷ freeze ∷ []) root)) (Some 7)
+    ∷ claim (refusal (Call.pop 1) (run popped root)) (Some 8)
     -- each batch has the counts noted since the one before it, and the requested reason, else 5 (Threshold)
     ∷ claim (heads (run counted root).batches) ((1, 7, 2, 2) ∷ (2, 5, 1, 5) ∷ [])
     -- outside the condition: a batch that is popped and was not folded is lost to the reads, and the table still has it
-    ∷ claim (ask usual (Ask.listing 1 10) (run (Call.add 1 a 7 epoch ∷ freeze ∷ Call.pop 1 ∷ []) root)) (answer (some []))
-    ∷ claim (ask_told (Ask.listing 1 10) (Call.add 1 a 7 epoch ∷ freeze ∷ Call.pop 1 ∷ []) root) (answer (some ((a, 7) ∷ [])))
+    ∷ claim (ask usual (Ask.listing 1 10) (run (Call.add 1 a 7 epoch ∷ freeze ∷ Call.pop 1 ∷ []) root)) (answer (Some []))
+    ∷ claim (ask_told (Ask.listing 1 10) (Call.add 1 a 7 epoch ∷ freeze ∷ Call.pop 1 ∷ []) root) (answer (Some ((a, 7) ∷ [])))
     ∷ []
 
 -- ---- a directory spread over a base, sixteen batches and live
@@ -89,36 +89,36 @@ root_with_b = one 1 (directory 1 (single b 8))
 
 abbrev spread_out : List Claim
 spread_out =
-    claim (ask usual (Ask.listing 1 20) (run wide root_with_b)) (answer (some wide_rows))
+    claim (ask usual (Ask.listing 1 20) (run wide root_with_b)) (answer (Some wide_rows))
     ∷ claim (ask usual (Ask.listing 1 15) (run wide root_with_b)) (refused 5)
-    ∷ claim (ask_told (Ask.listing 1 20) wide root_with_b) (answer (some wide_rows))
-    ∷ claim (ask usual (Ask.child 1 (80 ∷ [])) (run wide root_with_b)) (answer none)
-    ∷ claim (ask usual (Ask.child 1 (72 ∷ [])) (run wide root_with_b)) (answer (some 107))
+    ∷ claim (ask_told (Ask.listing 1 20) wide root_with_b) (answer (Some wide_rows))
+    ∷ claim (ask usual (Ask.child 1 (80 ∷ [])) (run wide root_with_b)) (answer None)
+    ∷ claim (ask usual (Ask.child 1 (72 ∷ [])) (run wide root_with_b)) (answer (Some 107))
     -- there is no room for a seventeenth batch
-    ∷ claim (refusal freeze (run wide root_with_b)) (some 6)
+    ∷ claim (refusal freeze (run wide root_with_b)) (Some 6)
     -- normalising a batch in the middle, and live, shows the same
-    ∷ claim (ask usual (Ask.listing 1 20) (run (wide ++ (Call.normalise 7 ∷ Call.normalise 16 ∷ [])) root_with_b)) (answer (some wide_rows))
+    ∷ claim (ask usual (Ask.listing 1 20) (run (wide ++ (Call.normalise 7 ∷ Call.normalise 16 ∷ [])) root_with_b)) (answer (Some wide_rows))
     ∷ []
 
 -- ---- an inode removed in one layer and touched again in another
 
 abbrev pub old_file : Node
 old_file = record {
-  meta = record { perm = 0o600; links = 1; owner = 0; group = 0; atime = epoch; mtime = epoch; ctime = epoch; attributes = put by_bytes a (some b) (empty by_bytes) };
+  meta = record { perm = 0o600; links = 1; owner = 0; group = 0; atime = epoch; mtime = epoch; ctime = epoch; attributes = put by_bytes a (Some b) (empty by_bytes) };
   body = file 10;
 }
 
 abbrev pub old : Store
-old = over_base 1 (put by_number 5 (some old_file) (empty by_number))
+old = over_base 1 (put by_number 5 (Some old_file) (empty by_number))
 
 abbrev pub set_mode : Fields
-set_mode = record { mode = some 0o100640; owner = none; group = none; links = none; atime = none; mtime = none; ctime = none; created = none; attributes = none }
+set_mode = record { mode = Some 0o100640; owner = None; group = None; links = None; atime = None; mtime = None; ctime = None; created = None; attributes = None }
 
 abbrev pub removed : List Call
-removed = Call.tombstone 5 ∷ Call.update 5 (some set_mode) ∷ freeze ∷ []
+removed = Call.tombstone 5 ∷ Call.update 5 (Some set_mode) ∷ freeze ∷ []
 
 abbrev pub touched : List Call
-touched = removed ++ (Call.insert 5 (given-delta no_fields (file (some 3))) ∷ freeze ∷ Call.update 5 (some set_mode) ∷ [])
+touched = removed ++ (Call.insert 5 (given-delta no_fields (file (Some 3))) ∷ freeze ∷ Call.update 5 (Some set_mode) ∷ [])
 
 abbrev pub settled : List Call
 settled = touched ++ (Call.fold ∷ Call.pop 1 ∷ Call.fold ∷ Call.pop 2 ∷ [])
@@ -128,14 +128,14 @@ again =
     -- an update of the removed inode does nothing
     claim (ask usual (Ask.exists 5) (run removed old)) (answer false)
     -- then it is another file: its own size, the low 12 bits of the update's mode, nothing of the old one
-    ∷ claim (perm_of (ask usual (Ask.attributes 5) (run touched old))) (some 0o640)
-    ∷ claim (size_of (ask usual (Ask.attributes 5) (run touched old))) (some 3)
-    ∷ claim (ask usual (Ask.attribute 5 a) old) (answer (some b))
-    ∷ claim (ask usual (Ask.attribute 5 a) (run touched old)) (answer none)
-    ∷ claim (ask usual (Ask.names 5 10) (run touched old)) (answer (some []))
+    ∷ claim (perm_of (ask usual (Ask.attributes 5) (run touched old))) (Some 0o640)
+    ∷ claim (size_of (ask usual (Ask.attributes 5) (run touched old))) (Some 3)
+    ∷ claim (ask usual (Ask.attribute 5 a) old) (answer (Some b))
+    ∷ claim (ask usual (Ask.attribute 5 a) (run touched old)) (answer None)
+    ∷ claim (ask usual (Ask.names 5 10) (run touched old)) (answer (Some []))
     -- and the same when both batches are folded and popped, and of the table
     ∷ claim (ask usual (Ask.attributes 5) (run settled old)) (ask usual (Ask.attributes 5) (run touched old))
-    ∷ claim (ask usual (Ask.attribute 5 a) (run settled old)) (answer none)
+    ∷ claim (ask usual (Ask.attribute 5 a) (run settled old)) (answer None)
     ∷ claim (ask_told (Ask.attributes 5) settled old) (ask usual (Ask.attributes 5) (run touched old))
     ∷ []
 

@@ -1,6 +1,6 @@
 -- Claims about what the definitions compute, and the stores that they are made of.
+use Rattle.std.specs.Prelude.{None, Option, Some}
 use mathlib.Core.Path.{◌≡◌}
-use mathlib.Core.Option.{Option, none, some}
 use mathlib.Core.List.{List, [], ◌∷◌}
 use mathlib.Core.Bool.{true}
 use Prim.Native.Nat.{ℕ}
@@ -45,10 +45,10 @@ node_of body = record { meta = first_meta usual (kind_of body); body = body }
 
 -- a base of one node
 abbrev pub one : ℕ → Body → Store
-one i body = over_base 1 (put by_number i (some (node_of body)) (empty by_number))
+one i body = over_base 1 (put by_number i (Some (node_of body)) (empty by_number))
 
 abbrev pub single : Text → ℕ → Entries
-single name i = put by_bytes name (some i) (empty by_bytes)
+single name i = put by_bytes name (Some i) (empty by_bytes)
 
 -- ---- calls
 
@@ -68,7 +68,7 @@ freeze = Call.freeze large epoch
 
 -- a delta given to insert
 abbrev pub given-delta : Fields → Change → Option Record
-given-delta f c = some (delta (record { fields = f; change = c }))
+given-delta f c = Some (delta (record { fields = f; change = c }))
 
 -- ---- names
 
@@ -81,11 +81,11 @@ b = 98 ∷ []
 -- ---- answers
 
 abbrev pub perm_of : Answer (Option FileAttr) → Option ℕ
-perm_of (refused n) = none
-perm_of (answer none) = none
-perm_of (answer (some x)) = some x.perm
+perm_of (refused n) = None
+perm_of (answer None) = None
+perm_of (answer (Some x)) = Some x.perm
 
 abbrev pub size_of : Answer (Option FileAttr) → Option ℕ
-size_of (refused n) = none
-size_of (answer none) = none
-size_of (answer (some x)) = some x.size
+size_of (refused n) = None
+size_of (answer None) = None
+size_of (answer (Some x)) = Some x.size

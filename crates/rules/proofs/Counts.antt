@@ -1,6 +1,6 @@
 -- Staged counts are not invented: whatever the call, what was noted is staged, queued or popped.
+use Rattle.std.specs.Prelude.{None, Some}
 use mathlib.Core.Path.{◌≡◌, refl, ap}
-use mathlib.Core.Option.{none, some}
 use mathlib.Core.List.{List, [], ◌∷◌, ◌++◌}
 use Prim.Native.Nat.{ℕ, zero, suc, ◌+◌}
 use native.Mathlib.Omega.{arith}
@@ -91,14 +91,14 @@ module _ (initial : Initial) where
 
   pub counts-kept : (k : Count) (c : Call) (s : Store) → total k (result initial c s) + leaves k c s ≡ total k s + comes k c
   unfolding result
-  counts-kept k (Call.insert i none) s = refl
-  counts-kept k (Call.insert i (some r)) s = alone k s _ _ _
+  counts-kept k (Call.insert i None) s = refl
+  counts-kept k (Call.insert i (Some r)) s = alone k s _ _ _
   counts-kept k (Call.tombstone i) s = alone k s _ _ _
   counts-kept k (Call.add i name inode t) s = alone k s _ _ _
   counts-kept k (Call.remove i name t) s = alone k s _ _ _
   counts-kept k (Call.set_parent i p) s = alone k s _ _ _
-  counts-kept k (Call.update i none) s = refl
-  counts-kept k (Call.update i (some new)) s = alone k s _ _ _
+  counts-kept k (Call.update i None) s = refl
+  counts-kept k (Call.update i (Some new)) s = alone k s _ _ _
   counts-kept bytes (Call.normalise p) s = rw sum-normal
   counts-kept operations (Call.normalise p) s = rw sum-normal
   counts-kept bytes (Call.freeze limits t) s = rw sum-append (omega arith)

@@ -1,6 +1,6 @@
 -- Demand 3 on meanings.
+use Rattle.std.specs.Prelude.{None, Option, Some}
 use mathlib.Core.Path.{◌≡◌, refl, sym as inverse, ◌∙◌, ap}
-use mathlib.Core.Option.{Option, none, some}
 use mathlib.Core.List.{List, [], ◌∷◌, ◌++◌, append_assoc}
 use mathlib.Core.Bool.{Bool, true, false, cond}
 use Prim.Native.Nat.{ℕ, zero, suc}
@@ -30,9 +30,9 @@ use Rattle.rules.proofs.Local.{Right?, Acts, Sound, tombstone-acts, insert-acts,
 use Rattle.rules.proofs.Lift.{lift-orderly, lift-table, live-right, live_table, below-orderly}
 use Rattle.rules.proofs.Normal.{normal-table, normal-orderly}
 
-no_node : (n : Option Node) → base_type n ≡ none → n ≡ none
-no_node none e = refl
-no_node (some n) e = cc
+no_node : (n : Option Node) → base_type n ≡ None → n ≡ None
+no_node None e = refl
+no_node (Some n) e = cc
 
 layers-append : (bs : List Batch) (b : Batch) → batch_layers (bs ++ (b ∷ [])) ≡ batch_layers bs ++ (b.records ∷ [])
 layers-append [] b = refl
@@ -101,12 +101,12 @@ module _ (initial : Initial) where
       table = lift-table initial (batch_layers s.batches) s.live s.base o i h f act;
     }
 
-    insert-ok : (i : ℕ) (r : Record) → Insertable i r s → Acts initial (λ o. some r) (λ n. fold_record initial r none) (get by_number i s.live) (beneath i)
+    insert-ok : (i : ℕ) (r : Record) → Insertable i r s → Acts initial (λ o. Some r) (λ n. fold_record initial r None) (get by_number i s.live) (beneath i)
     insert-ok i r h =
-        let e : beneath i ≡ none = no_node (beneath i) (let z = shown i in cc (h.missing, h.not_live)) in
+        let e : beneath i ≡ None = no_node (beneath i) (let z = shown i in cc (h.missing, h.not_live)) in
         rw (h.not_live, e) (insert-acts initial r h.orderly)
 
-    at-directory : (i : ℕ) (D : DirectoryChange) (N : NodeChange) → Sound D N → type_at s i ≡ some directory
+    at-directory : (i : ℕ) (D : DirectoryChange) (N : NodeChange) → Sound D N → type_at s i ≡ Some directory
         → Keeps (with_live s.batches (alter i (on_directory D) s.live)) s.base (alter i (map_if (change_node N)) (table_of initial s))
     at-directory i D N S h =
         at-live i (on_directory D) (map_if (change_node N))
@@ -116,14 +116,14 @@ module _ (initial : Initial) where
     pub call-keeps : (c : Call) → Condition initial c s
         → Keeps (layers (result initial c s)) (result initial c s).base (effect initial c (table_of initial s))
     unfolding result effect
-    call-keeps (Call.insert i none) h = record { orderly = o; table = refl }
-    call-keeps (Call.insert i (some r)) h = at-live i (λ o. some r) (λ n. fold_record initial r none) (insert-ok i r h)
-    call-keeps (Call.tombstone i) h = at-live i (λ o. some tombstone) (λ n. none) (tombstone-acts initial _ _)
-    call-keeps (Call.add i name inode t) h = at-directory i (adding name inode t) (naming name (some inode) t) (add-sound name inode t) h
-    call-keeps (Call.remove i name t) h = at-directory i (removing name t) (naming name none t) (remove-sound name t) h
+    call-keeps (Call.insert i None) h = record { orderly = o; table = refl }
+    call-keeps (Call.insert i (Some r)) h = at-live i (λ o. Some r) (λ n. fold_record initial r None) (insert-ok i r h)
+    call-keeps (Call.tombstone i) h = at-live i (λ o. Some tombstone) (λ n. None) (tombstone-acts initial _ _)
+    call-keeps (Call.add i name inode t) h = at-directory i (adding name inode t) (naming name (Some inode) t) (add-sound name inode t) h
+    call-keeps (Call.remove i name t) h = at-directory i (removing name t) (naming name None t) (remove-sound name t) h
     call-keeps (Call.set_parent i p) h = at-directory i (setting_parent p) (parenting p) (parent-sound p) h
-    call-keeps (Call.update i none) h = record { orderly = o; table = refl }
-    call-keeps (Call.update i (some new)) h =
+    call-keeps (Call.update i None) h = record { orderly = o; table = refl }
+    call-keeps (Call.update i (Some new)) h =
         at-live i (updated new (type_below s i)) (map_if (update_node new))
         (rw (shown-below i) (update-acts initial new (get by_number i s.live) (beneath i) (live-ok i) (rw (← (shown i)) h)))
     call-keeps (Call.normalise p) h = normalise-keeps [] s.base s.batches p s.live o
@@ -171,8 +171,8 @@ module _ (initial : Initial) where
         room false h = stays 5 h
 
         go : (r : Option ℕ) → Whole (if_room m.room (unless r new))
-        go (some n) = stays n
-        go none = room (m.room new)
+        go (Some n) = stays n
+        go None = room (m.room new)
 
   -- ---- a list of calls
 

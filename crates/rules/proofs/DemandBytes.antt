@@ -1,6 +1,6 @@
 -- Demand 3 on bytes, of the definitions that the code's contracts cite.
+use Rattle.std.specs.Prelude.{None, Option, Some}
 use mathlib.Core.Path.{◌≡◌, refl, sym, ap, ◌∙◌}
-use mathlib.Core.Option.{Option, none, some}
 use mathlib.Core.List.{List, [], ◌∷◌, map}
 use mathlib.Core.Bool.{Bool, true, false, cond}
 use Prim.Native.Nat.{ℕ, ◌≤◌}
@@ -155,8 +155,8 @@ module _ (initial : Initial) where
       room false e = h
 
       go : (r : Option ℕ) → InRoom (store_after (if_room m.room (unless r new)) s)
-      go none = room (m.room new) refl
-      go (some n) = h
+      go None = room (m.room new) refl
+      go (Some n) = h
 
   -- our calls on the image of a store do what the rules do on the store
   pub record Follows (calls : List Called) (s : Store) : Type 0 where

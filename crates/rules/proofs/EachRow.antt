@@ -1,10 +1,10 @@
 -- What holds of every row of a map holds of every row of the map that a change makes of it. Nothing is said of how many rows there are.
-use mathlib.Core.Option.{Option, none, some}
+use Rattle.std.specs.Prelude.{None, Option, Some}
 use mathlib.Core.List.{List, [], ◌∷◌}
 use mathlib.Core.Bool.{Bool, true, false}
 use Prim.Native.Nat.{ℕ}
-use Rattle.wire.specs.declared.order.Ordering.{Ordering}
-use Rattle.wire.specs.declared.order.Ordering.TheVariants.{Less, Equal, Greater}
+use Rattle.std.specs.declared.cmp.Ordering.{Ordering}
+use Rattle.std.specs.declared.cmp.Ordering.TheVariants.{Less, Equal, Greater}
 use Rattle.wire.specs.Order.{Order}
 use Rattle.wire.specs.Rows.{choose, place, lookup, insert, remove, set}
 use Rattle.wire.specs.Maps.{Map, sift, empty, get, put, over, merge, keep}
@@ -49,15 +49,15 @@ module _ {K A : Type 0} {O : Order K} {P : K → Type 0} {Q : A → Type 0} wher
       go [] h = tt
       go (e ∷ l) h = pick (O.cmp k e.0) (go l h.1)
         where
-          pick : (c : Ordering) → IfGiven Q (lookup O k l) → IfGiven Q (choose c (some e.1) (lookup O k l))
+          pick : (c : Ordering) → IfGiven Q (lookup O k l) → IfGiven Q (choose c (Some e.1) (lookup O k l))
           pick Less i = i
           pick Equal i = h.0.1
           pick Greater i = i
 
   pub put-fits : (k : K) (o : Option A) (m : Map O A) → P k → IfGiven Q o → MapFits Any P Q m → MapFits Any P Q (put O k o m)
   unfolding put set
-  put-fits k none m p q h = record { count = tt; each = every-remove O (λ e. P e.0 × Q e.1) k m.rows h.each }
-  put-fits k (some v) m p q h = record { count = tt; each = every-insert O (λ e. P e.0 × Q e.1) k v m.rows (p, q) h.each }
+  put-fits k None m p q h = record { count = tt; each = every-remove O (λ e. P e.0 × Q e.1) k m.rows h.each }
+  put-fits k (Some v) m p q h = record { count = tt; each = every-insert O (λ e. P e.0 × Q e.1) k v m.rows (p, q) h.each }
 
   -- one map put over another, where each row of it makes of what fits what fits
   module _ {C : Type 0} {R : C → Type 0} (g : K → C → Option A → Option A)
@@ -76,8 +76,8 @@ module _ {K A : Type 0} {O : Order K} {P : K → Type 0} {Q : A → Type 0} wher
 module _ {K A : Type 0} {O : Order K} {P : K → Type 0} {Q : A → Type 0} where
   pub keep-fits : (p : K → A → Bool) (m : Map O A) → MapFits Any P Q m → MapFits Any P Q (keep O p m)
   unfolding keep
-  keep-fits p m h = merge-fits (λ k a o. sift (p k) (some a)) (λ k a o q i. go (p k a) a q) m (empty O) h empty-fits
+  keep-fits p m h = merge-fits (λ k a o. sift (p k) (Some a)) (λ k a o q i. go (p k a) a q) m (empty O) h empty-fits
     where
-      go : (b : Bool) (a : A) → Q a → IfGiven Q (elim b [ true ↦ some a | false ↦ none ])
+      go : (b : Bool) (a : A) → Q a → IfGiven Q (elim b [ true ↦ Some a | false ↦ None ])
       go true a q = q
       go false a q = tt

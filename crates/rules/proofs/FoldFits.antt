@@ -1,5 +1,5 @@
 -- What a fold makes of nodes and records that fit fits, but for counts.
-use mathlib.Core.Option.{Option, none, some}
+use Rattle.std.specs.Prelude.{None, Option, Some}
 use mathlib.Core.List.{List, [], ◌∷◌}
 use mathlib.Core.Bool.{Bool, true, false, cond}
 use Prim.Native.Nat.{ℕ}
@@ -16,23 +16,23 @@ use Rattle.rules.specs.Queue.{fold_layer, fold_all}
 use Rattle.rules.proofs.EachRow.{Any, empty-fits, merge-fits}
 
 given-fits : {A : Type 0} (P : A → Type 0) (o : Option A) (a : A) → IfGiven P o → P a → P (given o a)
-given-fits P none a h p = p
-given-fits P (some x) a h p = h
+given-fits P None a h p = p
+given-fits P (Some x) a h p = h
 
 cut_fits : (o : Option ℕ) → IfGiven FitsWord o → IfGiven FitsWord (cut o)
-cut_fits none h = tt
-cut_fits (some mode) h = omega arith
+cut_fits None h = tt
+cut_fits (Some mode) h = omega arith
 
 alter-fits : (o : Option Changes) (vs : Attributes) → IfGiven (ChangesFits Any) o → MapFits Any FitsName FitsValue vs
     → MapFits Any FitsName FitsValue (meet alter_all o vs)
-alter-fits none vs h f = f
-alter-fits (some c) vs h f = merge-fits (λ name change old. change) (λ name change old r q. r) c vs h f
+alter-fits None vs h f = f
+alter-fits (Some c) vs h f = merge-fits (λ name change old. change) (λ name change old r q. r) c vs h f
 
 entries_fit : (added : Entries) (removed : Names) (es : Entries) → MapFits Any FitsName FitsInode added → MapFits Any FitsName (λ _. Unit {0}) removed
     → MapFits Any FitsName FitsInode es → MapFits Any FitsName FitsInode (add_all added (remove_all removed es))
 entries_fit added removed es a r f =
-    merge-fits (λ name inode old. some inode) (λ name inode old x q. x) added (remove_all removed es) a
-    (merge-fits (λ name u old. none) (λ name u old x q. tt) removed es r f)
+    merge-fits (λ name inode old. Some inode) (λ name inode old x q. x) added (remove_all removed es) a
+    (merge-fits (λ name u old. None) (λ name u old x q. tt) removed es r f)
 
 meta-fits : (f : Fields) (m : Meta) → FieldsFits Any f → MetaFits Any m → MetaFits Any (on_meta f m)
 meta-fits f m h k = record {
@@ -93,11 +93,11 @@ module _ (initial : Initial) (ok : FitsInitial initial) where
   fold-fits : (r : Record) (n : Option Node) → RecordFits Any r → IfGiven (NodeFits Any) n → IfGiven (NodeFits Any) (fold_record initial r n)
   unfolding fold_record
   fold-fits tombstone n h k = tt
-  fold-fits (delta d) none h k = record {
+  fold-fits (delta d) None h k = record {
     meta = meta-fits d.fields (first_meta initial (changed_kind d.change)) h.fields (first-meta (changed_kind d.change));
     body = body-fits d.change (first_body d.change) h.change (first_body_lem d.change h.change);
   }
-  fold-fits (delta d) (some n) h k = go (same_kind (changed_kind d.change) (kind_of n.body))
+  fold-fits (delta d) (Some n) h k = go (same_kind (changed_kind d.change) (kind_of n.body))
     where
       go : (b : Bool) → NodeFits Any (cond b (applied d n) n)
       go true = record { meta = meta-fits d.fields n.meta h.fields k.meta; body = body-fits d.change n.body h.change k.body }

@@ -1,6 +1,6 @@
 -- One inode's stack: every read is the read of the folded node alone; folding the lowest record keeps all reads.
+use Rattle.std.specs.Prelude.{Option}
 use mathlib.Core.Path.{◌≡◌, refl, ◌∙◌, ap, fun_ext}
-use mathlib.Core.Option.{Option}
 use mathlib.Core.List.{List, [], ◌∷◌}
 use Prim.Native.Nat.{ℕ}
 use Rattle.image.specs.Meaning.{Kind, Node, Record, tombstone, delta}

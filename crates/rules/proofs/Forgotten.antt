@@ -1,6 +1,6 @@
 -- A placed stack shows the names that its stack shows: with the starts forgotten, the entries and the attributes are those of Reads.
+use Rattle.std.specs.Prelude.{None, Option, Some}
 use mathlib.Core.Path.{◌≡◌, refl, ◌∙◌, ap}
-use mathlib.Core.Option.{Option, none, some}
 use mathlib.Core.List.{List, [], ◌∷◌, ◌++◌, map}
 use Prim.Native.Nat.{ℕ, ◌+◌}
 use lib.ListN.{length}
@@ -43,14 +43,14 @@ body-forgotten p m (file size) = map-empty by_bytes _
 body-forgotten p m (symlink target) = map-empty by_bytes _
 body-forgotten p m (special device) = map-empty by_bytes _
 
-added-forgotten : (p : ℕ) (added : Entries) (es : Started ℕ) → forgotten (merge by_bytes (λ name new old. some new) (starts inode p added) es) ≡ add_all added (forgotten es)
+added-forgotten : (p : ℕ) (added : Entries) (es : Started ℕ) → forgotten (merge by_bytes (λ name new old. Some new) (starts inode p added) es) ≡ add_all added (forgotten es)
 added-forgotten p added es =
-    map-merge by_bytes (λ (x : ℕ × ℕ). x.1) (λ (x : ℕ × ℕ). x.1) (λ name new old. some new) (λ name new old. some new) (λ k c o. refl) (starts inode p added) es
+    map-merge by_bytes (λ (x : ℕ × ℕ). x.1) (λ (x : ℕ × ℕ). x.1) (λ name new old. Some new) (λ name new old. Some new) (λ k c o. refl) (starts inode p added) es
     ∙ ap (λ (a : Entries). add_all a (forgotten es)) (starts-forgotten inode p added)
 
-removed-forgotten : (removed : Names) (es : Started ℕ) → forgotten (merge by_bytes (λ name u old. none) removed es) ≡ remove_all removed (forgotten es)
+removed-forgotten : (removed : Names) (es : Started ℕ) → forgotten (merge by_bytes (λ name u old. None) removed es) ≡ remove_all removed (forgotten es)
 removed-forgotten removed es =
-    map-merge by_bytes (λ (x : ℕ × ℕ). x.1) (λ (u : Unit {0}). u) (λ name u old. none) (λ name u old. none) (λ k c o. refl) removed es
+    map-merge by_bytes (λ (x : ℕ × ℕ). x.1) (λ (u : Unit {0}). u) (λ name u old. None) (λ name u old. None) (λ k c o. refl) removed es
     ∙ ap (λ (r : Names). remove_all r (forgotten es)) (map_same by_bytes removed)
 
 change-forgotten : (p : ℕ) (f : Fields) (c : Change) (es : Started ℕ) → forgotten (change_starts p f c es) ≡ change_entries c (forgotten es)
@@ -62,8 +62,8 @@ change-forgotten p f (special s device) es = refl
 
 pub entries-forgotten : (rs : List (Placed Record)) (b : Option (Placed Node)) → forgotten (look_placed placed_entries rs b) ≡ look entries (unplaced rs) (unplaced_node b)
 unfolding look_placed look
-entries-forgotten [] none = map-empty by_bytes _
-entries-forgotten [] (some n) = body-forgotten n.place n.held.meta n.held.body
+entries-forgotten [] None = map-empty by_bytes _
+entries-forgotten [] (Some n) = body-forgotten n.place n.held.meta n.held.body
 entries-forgotten (r ∷ rs) b = go r.held (entries-forgotten rs b)
   where
     go : (h : Record) → forgotten (look_placed placed_entries rs b) ≡ look entries (unplaced rs) (unplaced_node b)
@@ -74,20 +74,20 @@ entries-forgotten (r ∷ rs) b = go r.held (entries-forgotten rs b)
 -- ---- attributes
 
 set-forgotten : (s : ℕ) (o : Option Text) → map_if (λ (x : ℕ × Text). x.1) (set_start (s, o)) ≡ o
-set-forgotten s none = refl
-set-forgotten s (some v) = refl
+set-forgotten s None = refl
+set-forgotten s (Some v) = refl
 
 alter-forgotten : (p : ℕ) (f : Fields) (o : Option Changes) (vs : Started Text) → forgotten (meet (alter_starts p f) o vs) ≡ meet alter_all o (forgotten vs)
-alter-forgotten p f none vs = refl
-alter-forgotten p f (some cs) vs =
+alter-forgotten p f None vs = refl
+alter-forgotten p f (Some cs) vs =
     map-merge by_bytes (λ (x : ℕ × Text). x.1) (λ (x : ℕ × Option Text). x.1) (λ name c old. set_start c) (λ name c old. c) (λ k c o. set-forgotten c.0 c.1)
     (starts (maybe value) (changes_at p f cs) cs) vs
     ∙ ap (λ (c : Changes). alter_all c (forgotten vs)) (starts-forgotten (maybe value) (changes_at p f cs) cs)
 
 pub values-forgotten : (rs : List (Placed Record)) (b : Option (Placed Node)) → forgotten (look_placed placed_values rs b) ≡ look values (unplaced rs) (unplaced_node b)
 unfolding look_placed look
-values-forgotten [] none = map-empty by_bytes _
-values-forgotten [] (some n) = starts-forgotten value (attributes_at n.place n.held.meta) n.held.meta.attributes
+values-forgotten [] None = map-empty by_bytes _
+values-forgotten [] (Some n) = starts-forgotten value (attributes_at n.place n.held.meta) n.held.meta.attributes
 values-forgotten (r ∷ rs) b = go r.held (values-forgotten rs b)
   where
     go : (h : Record) → forgotten (look_placed placed_values rs b) ≡ look values (unplaced rs) (unplaced_node b)

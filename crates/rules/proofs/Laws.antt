@@ -1,6 +1,6 @@
 -- The law of a read: of a base that a record was folded into, it is the record's step over the read of the base.
+use Rattle.std.specs.Prelude.{IsSome, None, Option, Some}
 use mathlib.Core.Path.{◌≡◌, refl, sym as inverse, ◌∙◌, ap}
-use mathlib.Core.Option.{Option, none, some, IsSome}
 use mathlib.Core.List.{[]}
 use mathlib.Core.Bool.{Bool, true, false}
 use Prim.Native.Nat.{ℕ}
@@ -90,15 +90,15 @@ one-kind P f g h i (special s d) (special v) e = i s d v (unfold special-of in a
 
 module _ (initial : Initial) where
   -- on nothing, and on a node of its kind, a delta is applied to a node
-  pub fold_same : (d : Delta) (n : Node) → changed_kind d.change ≡ kind_of n.body → fold_record initial (delta d) (some n) ≡ some (applied d n)
+  pub fold_same : (d : Delta) (n : Node) → changed_kind d.change ≡ kind_of n.body → fold_record initial (delta d) (Some n) ≡ Some (applied d n)
   unfolding fold_record
   fold_same d n e = rw (same_kind_lem _ _ e)
 
-  pub fold-none : (d : Delta) → fold_record initial (delta d) none ≡ some (applied d (first_node initial d.change))
+  pub fold-none : (d : Delta) → fold_record initial (delta d) None ≡ Some (applied d (first_node initial d.change))
   unfolding fold_record
   fold-none d = refl
 
-  pub fold-tombstone : (n : Option Node) → fold_record initial tombstone n ≡ none
+  pub fold-tombstone : (n : Option Node) → fold_record initial tombstone n ≡ None
   unfolding fold_record
   fold-tombstone n = refl
 
@@ -109,29 +109,29 @@ module _ (initial : Initial) where
 
   -- It is enough to show it of a tombstone, of a delta and a node of its kind, and that a delta on nothing is one on its first node.
   lawful : {X : Type 0} (R : Read X)
-      → ((n : Option Node) → R.step tombstone (R.base n) ≡ R.base none)
-      → ((d : Delta) → Suits d.change none → R.step (delta d) (R.base none) ≡ R.step (delta d) (R.base (some (first_node initial d.change))))
-      → ((d : Delta) (n : Node) → changed_kind d.change ≡ kind_of n.body → Tidy d.change d.fields → R.step (delta d) (R.base (some n)) ≡ R.base (some (applied d n)))
+      → ((n : Option Node) → R.step tombstone (R.base n) ≡ R.base None)
+      → ((d : Delta) → Suits d.change None → R.step (delta d) (R.base None) ≡ R.step (delta d) (R.base (Some (first_node initial d.change))))
+      → ((d : Delta) (n : Node) → changed_kind d.change ≡ kind_of n.body → Tidy d.change d.fields → R.step (delta d) (R.base (Some n)) ≡ R.base (Some (applied d n)))
       → Law R
   lawful R t o s tombstone n h = rw fold-tombstone (t n)
-  lawful R t o s (delta d) none h = rw fold-none (o d h.0 ∙ s d (first_node initial d.change) (inverse (kind-first d.change)) h.1)
-  lawful R t o s (delta d) (some n) h = rw (fold_same d n h.0) (s d n h.0 h.1)
+  lawful R t o s (delta d) None h = rw fold-none (o d h.0 ∙ s d (first_node initial d.change) (inverse (kind-first d.change)) h.1)
+  lawful R t o s (delta d) (Some n) h = rw (fold_same d n h.0) (s d n h.0 h.1)
 
   pub type-law : Law type
-  type-law = lawful type (λ n. refl) (λ d f. refl) (λ d n e t. ap some (e ∙ inverse (kind-on d.change n.body)))
+  type-law = lawful type (λ n. refl) (λ d f. refl) (λ d n e t. ap Some (e ∙ inverse (kind-on d.change n.body)))
 
 -- ---- child
 
 -- a name in entries that a delta removed from and added to
 pub added-removed : (k : Text) (a : Entries) (r : Names) (es : Entries)
-    → get by_bytes k (add_all a (remove_all r es)) ≡ meet (λ i o. some i) (get by_bytes k a) (meet (λ u o. none) (get by_bytes k r) (get by_bytes k es))
+    → get by_bytes k (add_all a (remove_all r es)) ≡ meet (λ i o. Some i) (get by_bytes k a) (meet (λ u o. None) (get by_bytes k r) (get by_bytes k es))
 added-removed k a r es = simp get-merge
 
 disjoint : {A B : Type 0} (a : Option A) (r : Option B) (x : Option A) → (IsSome a → IsSome r → ⊥)
-    → meet (λ u o. none) r (meet (λ i o. some i) a x) ≡ meet (λ i o. some i) a (meet (λ u o. none) r x)
-disjoint none r x n = refl
-disjoint (some a) none x n = refl
-disjoint (some a) (some r) x n = absurd (n tt tt)
+    → meet (λ u o. None) r (meet (λ i o. Some i) a x) ≡ meet (λ i o. Some i) a (meet (λ u o. None) r x)
+disjoint None r x n = refl
+disjoint (Some a) None x n = refl
+disjoint (Some a) (Some r) x n = absurd (n tt tt)
 
 pub child-law : (initial : Initial) (k : Text) → Law initial (child k)
 child-law initial k = lawful initial (child k) (λ n. refl)
@@ -140,7 +140,7 @@ child-law initial k = lawful initial (child k) (λ n. refl)
     (λ p a r q es t. disjoint (get by_bytes k a) (get by_bytes k r) (get by_bytes k es) (t k) ∙ inverse (added-removed k a r es))
     (λ n m t. refl) (λ t u t'. refl) (λ s d v e t. refl) d.change n.body e t)
   where
-    nothing : (c : Change) → change_child k c none ≡ change_child k c (body_child k (first_body c))
+    nothing : (c : Change) → change_child k c None ≡ change_child k c (body_child k (first_body c))
     nothing (directory p a r) = rw get-empty
     nothing (file n) = refl
     nothing (symlink t) = refl
@@ -148,7 +148,7 @@ child-law initial k = lawful initial (child k) (λ n. refl)
 
 -- ---- attributes
 
-first-attr : (initial : Initial) → Accepted initial → (i : ℕ) (c : Change) → base_attr i (some (first_node initial c)) ≡ some (first_attr initial i c)
+first-attr : (initial : Initial) → Accepted initial → (i : ℕ) (c : Change) → base_attr i (Some (first_node initial c)) ≡ Some (first_attr initial i c)
 first-attr initial ok i (directory p a r) = refl
 first-attr initial ok i (file n) = refl
 first-attr initial ok i (symlink t) = rw ok
@@ -158,8 +158,8 @@ first-attr initial ok i (special block d) = refl
 first-attr initial ok i (special socket d) = refl
 
 length-given : (t : Option Text) (u : Text) → given (length_if t) (length u) ≡ length (given t u)
-length-given none u = refl
-length-given (some t) u = refl
+length-given None u = refl
+length-given (Some t) u = refl
 
 -- a symlink's mode shows 777
 link-mode : (mode : Option ℕ) → LinkMode mode → given (cut mode) 0o777 ≡ 0o777
@@ -168,8 +168,8 @@ link-mode mode h = rw h
 pub attr-law : (initial : Initial) → Accepted initial → (i : ℕ) → Law initial (attributes initial i)
 attr-law initial ok i = lawful initial (attributes initial i) (λ n. refl)
     (λ d f. inverse (ap (step_attr initial i (delta d)) (first-attr initial ok i d.change)))
-    (λ d n e t. one-kind (λ c b. Tidy c d.fields → step_attr initial i (delta (record { fields = d.fields; change = c })) (base_attr i (some (record { meta = n.meta; body = b })))
-    ≡ base_attr i (some (applied (record { fields = d.fields; change = c }) (record { meta = n.meta; body = b }))))
+    (λ d n e t. one-kind (λ c b. Tidy c d.fields → step_attr initial i (delta (record { fields = d.fields; change = c })) (base_attr i (Some (record { meta = n.meta; body = b })))
+    ≡ base_attr i (Some (applied (record { fields = d.fields; change = c }) (record { meta = n.meta; body = b }))))
     (λ p a r q es t. refl) (λ n m t. refl) (λ t u m. rw (link-mode d.fields.mode m, length-given)) (λ s d v e t. refl) d.change n.body e t)
 
 -- ---- listing
@@ -187,23 +187,23 @@ entries-law initial = lawful initial entries (λ n. refl) (λ d f. nothing d.cha
 
 -- ---- link text and parent
 
-or-given : {A : Type 0} (o : Option A) (x : A) → or_else o (some x) ≡ some (given o x)
-or-given none x = refl
-or-given (some a) x = refl
+or-given : {A : Type 0} (o : Option A) (x : A) → or_else o (Some x) ≡ Some (given o x)
+or-given None x = refl
+or-given (Some a) x = refl
 
 or_some : {A : Type 0} (o : Option A) (x y : Option A) → IsSome o → or_else o x ≡ or_else o y
-or_some none x y h = absurd h
-or_some (some a) x y h = refl
+or_some None x y h = absurd h
+or_some (Some a) x y h = refl
 
 pub text-law : (initial : Initial) → Law initial link_text
 text-law initial = lawful initial link_text (λ n. refl) (λ d f. nothing d.change f)
     (λ d n e t. one-kind (λ c b. change_text c (body_text b) ≡ body_text (on_body c b))
     (λ p a r q es. refl) (λ n m. refl) (λ t u. or-given t u) (λ s d v e. refl) d.change n.body e)
   where
-    nothing : (c : Change) → Suits c none → change_text c none ≡ change_text c (body_text (first_body c))
+    nothing : (c : Change) → Suits c None → change_text c None ≡ change_text c (body_text (first_body c))
     nothing (directory p a r) f = refl
     nothing (file n) f = refl
-    nothing (symlink t) f = or_some t none (some []) f
+    nothing (symlink t) f = or_some t None (Some []) f
     nothing (special s d) f = refl
 
 pub parent-law : (initial : Initial) → Law initial parent
@@ -211,8 +211,8 @@ parent-law initial = lawful initial parent (λ n. refl) (λ d f. nothing d.chang
     (λ d n e t. one-kind (λ c b. change_parent c (body_parent b) ≡ body_parent (on_body c b))
     (λ p a r q es. or-given p q) (λ n m. refl) (λ t u. refl) (λ s d v e. refl) d.change n.body e)
   where
-    nothing : (c : Change) → Suits c none → change_parent c none ≡ change_parent c (body_parent (first_body c))
-    nothing (directory p a r) f = or_some p none (some 1) f
+    nothing : (c : Change) → Suits c None → change_parent c None ≡ change_parent c (body_parent (first_body c))
+    nothing (directory p a r) f = or_some p None (Some 1) f
     nothing (file n) f = refl
     nothing (symlink t) f = refl
     nothing (special s d) f = refl
@@ -220,12 +220,12 @@ parent-law initial = lawful initial parent (λ n. refl) (λ d f. nothing d.chang
 -- ---- extended attributes
 
 meet-given : {A : Type 0} (o : Option A) (x : A) → meet (λ i o. i) o x ≡ given o x
-meet-given none x = refl
-meet-given (some a) x = refl
+meet-given None x = refl
+meet-given (Some a) x = refl
 
 altered : (k : Text) (o : Option Changes) (vs : Attributes) → given (change_of k o) (get by_bytes k vs) ≡ get by_bytes k (meet alter_all o vs)
-altered k none vs = refl
-altered k (some c) vs = simp (get-merge, meet-given)
+altered k None vs = refl
+altered k (Some c) vs = simp (get-merge, meet-given)
 
 pub attribute-law : (initial : Initial) (k : Text) → Law initial (attribute k)
 attribute-law initial k = lawful initial (attribute k) (λ n. refl) (λ d f. rw get-empty) (λ d n e t. altered k d.fields.attributes n.meta.attributes)

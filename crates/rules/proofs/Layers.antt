@@ -1,6 +1,6 @@
 -- Layers over a base: reads are reads of the folded table alone; freeze, fold and pop keep the table and the order.
+use Rattle.std.specs.Prelude.{None, Option, Some}
 use mathlib.Core.Path.{◌≡◌, refl, sym as inverse, ◌∙◌, ap}
-use mathlib.Core.Option.{Option, none, some}
 use mathlib.Core.List.{List, [], ◌∷◌, ◌++◌}
 use Prim.Native.Nat.{ℕ}
 use Rattle.wire.specs.Orders.{by_number}
@@ -25,8 +25,8 @@ stack-low i [] rs r = refl
 stack-low i (l ∷ ls) rs r = ap (stack_on i ls) (go (get by_number i l)) ∙ stack-low i ls (over? (get by_number i l) rs) r
   where
     go : (o : Option Record) → over? o (low rs r) ≡ low (over? o rs) r
-    go none = refl
-    go (some q) = refl
+    go None = refl
+    go (Some q) = refl
 
 pub stack-append : (i : ℕ) (ls ms : List Layer) (rs : List Record) → stack_on i (ls ++ ms) rs ≡ stack_on i ms (stack_on i ls rs)
 unfolding stack_on
@@ -42,8 +42,8 @@ module _ (initial : Initial) where
 
   pub over-folded : (o : Option Record) (rs : List Record) (b : Option Node) → folded initial (over? o rs) b ≡ meet (fold_record initial) o (folded initial rs b)
   unfolding folded
-  over-folded none rs b = refl
-  over-folded (some r) rs b = refl
+  over-folded None rs b = refl
+  over-folded (Some r) rs b = refl
 
   -- it holds, of each inode, its stack folded
   get-all : (i : ℕ) (ls : List Layer) (t : Base) (rs : List Record) (b : Option Node) → get by_number i t ≡ folded initial rs b
@@ -83,8 +83,8 @@ module _ (initial : Initial) where
       where
         go : (q : Option Record) → OrderlyStack (stack_on i ls (over? q [])) (get by_number i t)
             → OrderlyStack (stack_on i ls (over? q [])) (meet (fold_record initial) q (get by_number i t))
-        go none h = h
-        go (some r) h =
+        go None h = h
+        go (Some r) h =
             rw (stack-low i ls [] r) (orderly-again initial (stack i ls) r (get by_number i t) (rw (stack-low i ls [] r) at h))
 
     -- pop: the front goes, where folding it again would change nothing
@@ -94,8 +94,8 @@ module _ (initial : Initial) where
         rw (ap (get by_number i) (inverse e) ∙ get-merge by_number (λ i r n. fold_record initial r n) i l t) (go (get by_number i l) (o i))
       where
         go : (q : Option Record) → OrderlyStack (stack_on i ls (over? q [])) (get by_number i t) → OrderlyStack (stack i ls) (meet (fold_record initial) q (get by_number i t))
-        go none h = h
-        go (some r) h = orderly-popped initial (stack i ls) r (get by_number i t) (rw (stack-low i ls [] r) at h)
+        go None h = h
+        go (Some r) h = orderly-popped initial (stack i ls) r (get by_number i t) (rw (stack-low i ls [] r) at h)
 
     pub pop-table : fold_layer initial l t ≡ t → fold_all initial ls t ≡ fold_all initial (l ∷ ls) t
     unfolding fold_all

@@ -1,10 +1,10 @@
 -- From an inode to the store: a change of one live record that acts at its inode keeps the layers orderly and acts on the table.
+use Rattle.std.specs.Prelude.{None, Option, Some}
 use mathlib.Core.Path.{◌≡◌, refl}
-use mathlib.Core.Option.{Option, none, some}
 use mathlib.Core.List.{List, [], ◌∷◌, ◌++◌}
 use Prim.Native.Nat.{ℕ}
-use Rattle.wire.specs.declared.order.Ordering.{Ordering}
-use Rattle.wire.specs.declared.order.Ordering.TheVariants.{Less, Equal, Greater}
+use Rattle.std.specs.declared.cmp.Ordering.{Ordering}
+use Rattle.std.specs.declared.cmp.Ordering.TheVariants.{Less, Equal, Greater}
 use Rattle.wire.specs.Rows.{choose}
 use Rattle.wire.specs.Orders.{by_number}
 use Rattle.wire.specs.Maps.{meet, get, get-put, get-merge, map-ext}
@@ -21,8 +21,8 @@ use Rattle.rules.proofs.Layers.{get-table, stack-append, all_append}
 use Rattle.rules.proofs.Local.{Right?, Acts}
 
 pub over_below : (o : Option Record) (rs : List Record) (b : Option Node) → OrderlyStack (over? o rs) b → OrderlyStack rs b
-over_below none rs b h = h
-over_below (some r) rs b h = h.1
+over_below None rs b h = h
+over_below (Some r) rs b h = h.1
 
 -- layers with a live layer over them
 pub live-stack : (i : ℕ) (bs : List Layer) (l : Layer) → stack i (bs ++ (l ∷ [])) ≡ over? (get by_number i l) (stack i bs)
@@ -36,12 +36,12 @@ module _ (initial : Initial) where
 
   -- order of a stack under a live record
   over-orderly : (o : Option Record) (rs : List Record) (b : Option Node) → OrderlyStack rs b → Right? o (base_type (folded initial rs b)) → OrderlyStack (over? o rs) b
-  over-orderly none rs b h q = h
-  over-orderly (some r) rs b h q = (rw (type-folded initial rs b h) q, h)
+  over-orderly None rs b h q = h
+  over-orderly (Some r) rs b h q = (rw (type-folded initial rs b h) q, h)
 
   pub over-right : (o : Option Record) (rs : List Record) (b : Option Node) → OrderlyStack (over? o rs) b → Right? o (base_type (folded initial rs b))
-  over-right none rs b h = tt
-  over-right (some r) rs b h = rw (← (type-folded initial rs b h.1)) h.0
+  over-right None rs b h = tt
+  over-right (Some r) rs b h = rw (← (type-folded initial rs b h.1)) h.0
 
   module _ (bs : List Layer) (l : Layer) (t : Base) (o : OrderlyLayers (bs ++ (l ∷ [])) t) where
     stack-orderly : (i : ℕ) → OrderlyStack (over? (get by_number i l) (stack i bs)) (get by_number i t)

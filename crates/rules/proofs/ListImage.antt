@@ -1,6 +1,6 @@
 -- After any list of calls, refused ones included, the store has an image.
+use Rattle.std.specs.Prelude.{None, Option, Some}
 use mathlib.Core.Path.{◌≡◌, refl}
-use mathlib.Core.Option.{Option, none, some}
 use mathlib.Core.List.{List, [], ◌∷◌}
 use mathlib.Core.Bool.{Bool, true, false, cond, ◌&&◌}
 use Prim.Native.Nat.{ℕ}
@@ -39,13 +39,13 @@ module _ (initial : Initial) (ok : FitsInitial initial) where
       new : Store
       new = result initial m.call s
 
-      room : refusal m.call s ≡ none → (b : Bool) → m.room new ≡ b → FitsStore (store_after (cond b (answer new) (refused 5)) s)
+      room : refusal m.call s ≡ None → (b : Bool) → m.room new ≡ b → FitsStore (store_after (cond b (answer new) (refused 5)) s)
       room e true r = result_fits initial ok m.call s h f.call e (f.room new r)
       room e false r = h
 
       go : (r : Option ℕ) → refusal m.call s ≡ r → FitsStore (store_after (if_room m.room (unless r new)) s)
-      go none e = room e (m.room new) refl
-      go (some n) e = h
+      go None e = room e (m.room new) refl
+      go (Some n) e = h
 
   pub after-fits : (calls : List Made) (s : Store) → Every FitsMade calls → FitsStore s → FitsStore (after initial calls s)
   unfolding after

@@ -1,6 +1,6 @@
 -- Where the lists of a node and of a delta stand in the image that they are read in.
+use Rattle.std.specs.Prelude.{Option, Some}
 use mathlib.Core.Path.{◌≡◌, refl, sym, ap, ◌∙◌}
-use mathlib.Core.Option.{Option, some}
 use mathlib.Core.List.{List, ◌++◌, append_assoc}
 use Prim.Native.Nat.{ℕ, ◌+◌, ◌-◌, ◌≤◌}
 use native.Mathlib.Omega.{arith}
@@ -52,7 +52,7 @@ kind-byte (special character) = refl
 kind-byte (special block) = refl
 kind-byte (special socket) = refl
 
-code-byte : (k : Kind) → length (code.write (some k)) ≡ 1
+code-byte : (k : Kind) → length (code.write (Some k)) ≡ 1
 unfolding code number_bytes groups
 code-byte directory = refl
 code-byte file = refl
@@ -74,7 +74,7 @@ meta-end m = (
   simp append_assoc,
 )
 
-fields-end : (f : Fields) (cs : Changes) → f.attributes ≡ some cs → EndsWith (changes.write cs) (fields.write f)
+fields-end : (f : Fields) (cs : Changes) → f.attributes ≡ Some cs → EndsWith (changes.write cs) (fields.write f)
 unfolding fields
 fields-end f cs e = (
   number_bytes (flags.mask (field_parts f)) ++ opt_write word f.mode ++ opt_write word f.owner ++ opt_write word f.group ++ opt_write word f.links
@@ -96,7 +96,7 @@ module _ (img : List ℕ) (p : ℕ) where
       → drop (p + 1) img ≡ fields.write d.fields ++ ((change_part (changed_kind d.change)).write (change_part_of d.change) ++ r)
   unfolding layer_record
   fields_at d r e =
-      let k = code.write (some (changed_kind d.change)) in
+      let k = code.write (Some (changed_kind d.change)) in
       let t = fields.write d.fields ++ ((change_part (changed_kind d.change)).write (change_part_of d.change) ++ r) in
       let g : drop p img ≡ k ++ t = simp append_assoc at (layer_record-one.forth (drop p img) (delta d) r e).0 in
       rw (code-byte (changed_kind d.change)) at (on img p k t g)
@@ -114,7 +114,7 @@ module _ (img : List ℕ) (p : ℕ) where
   attributes-at n r e = let t = (body_part (kind_of n.body)).write (body_part_of n.body) ++ r in
       (t, ends_at (p + 1) t (meta-end n.meta) (meta-at n r e))
 
-  pub changes-at : (d : Delta) (cs : Changes) (r : List ℕ) → layer_record.read (drop p img) ≡ got (delta d) r → d.fields.attributes ≡ some cs
+  pub changes-at : (d : Delta) (cs : Changes) (r : List ℕ) → layer_record.read (drop p img) ≡ got (delta d) r → d.fields.attributes ≡ Some cs
       → (t : List ℕ) × (drop (changes_at p d.fields cs) img ≡ changes.write cs ++ t)
   changes-at d cs r e h = let t = (change_part (changed_kind d.change)).write (change_part_of d.change) ++ r in
       (t, ends_at (p + 1) t (fields-end d.fields cs h) (fields_at d r e))

@@ -1,5 +1,5 @@
 -- What a change makes of a live record that fits fits, but for counts; so does a normalised layer.
-use mathlib.Core.Option.{Option, none, some}
+use Rattle.std.specs.Prelude.{None, Option, Some}
 use mathlib.Core.List.{List}
 use Prim.Native.Nat.{ℕ}
 use native.Mathlib.Omega.{arith}
@@ -40,9 +40,9 @@ module _ (D : DirectoryChange) (F : Fitting D) where
   delta-fits f (special s device) h k = record { fields = h; change = k }
 
   pub directory-fits : (o : Option Record) → IfGiven (RecordFits Any) o → IfGiven (RecordFits Any) (on_directory D o)
-  directory-fits none h = delta-fits no_fields (directory none (empty by_bytes) (empty by_bytes)) none-fits (tt, (empty-fits, empty-fits))
-  directory-fits (some tombstone) h = tt
-  directory-fits (some (delta d)) h = delta-fits d.fields d.change h.fields h.change
+  directory-fits None h = delta-fits no_fields (directory None (empty by_bytes) (empty by_bytes)) none-fits (tt, (empty-fits, empty-fits))
+  directory-fits (Some tombstone) h = tt
+  directory-fits (Some (delta d)) h = delta-fits d.fields d.change h.fields h.change
 
 -- a name is put in one of the two lists and taken out of the other
 naming-fits : (name : Text) (inode : Option ℕ) (u : Option (Unit {0})) (t : Time) → FitsName name → IfGiven FitsInode inode → IfGiven (λ _. Unit {0}) u → FitsTime t
@@ -55,10 +55,10 @@ naming-fits name inode u t n i v f = record {
 }
 
 pub adding-fits : (name : Text) (inode : ℕ) (t : Time) → FitsName name → FitsInode inode → FitsTime t → Fitting (adding name inode t)
-adding-fits name inode t n i f = naming-fits name (some inode) none t n i tt f
+adding-fits name inode t n i f = naming-fits name (Some inode) None t n i tt f
 
 pub removing-fits : (name : Text) (t : Time) → FitsName name → FitsTime t → Fitting (removing name t)
-removing-fits name t n f = naming-fits name none (some tt) t n tt tt f
+removing-fits name t n f = naming-fits name None (Some tt) t n tt tt f
 
 pub parent-fits : (q : ℕ) → FitsInode q → Fitting (setting_parent q)
 parent-fits q h = record { parent = λ p k. h; added = λ a k. k; removed = λ r k. k; fields = λ f k. k }
@@ -66,13 +66,13 @@ parent-fits q h = record { parent = λ p k. h; added = λ a k. k; removed = λ r
 -- ---- update
 
 either-fits : {A : Type 0} (P : A → Type 0) (a b : Option A) → IfGiven P a → IfGiven P b → IfGiven P (or_else a b)
-either-fits P none b h k = k
-either-fits P (some a) b h k = h
+either-fits P None b h k = k
+either-fits P (Some a) b h k = h
 
 changes-fit : (new old : Option Changes) → IfGiven (ChangesFits Any) new → IfGiven (ChangesFits Any) old → IfGiven (ChangesFits Any) (merge_changes new old)
-changes-fit none old h k = k
-changes-fit (some new) none h k = h
-changes-fit (some new) (some old) h k = merge-fits (λ name change o. some change) (λ name change o r q. r) new old h k
+changes-fit None old h k = k
+changes-fit (Some new) None h k = h
+changes-fit (Some new) (Some old) h k = merge-fits (λ name change o. Some change) (λ name change o r q. r) new old h k
 
 fields_fit : (new old : Fields) → FieldsFits Any new → FieldsFits Any old → FieldsFits Any (merge_fields new old)
 fields_fit new old h k = record {
@@ -95,21 +95,21 @@ bare-fits (special s) = omega arith
 
 pub updated-fits : (new : Fields) (below : Option Kind) → FieldsFits Any new → (o : Option Record) → IfGiven (RecordFits Any) o
     → IfGiven (RecordFits Any) (updated new below o)
-updated-fits new none h none k = tt
-updated-fits new (some kind) h none k = record { fields = h; change = bare-fits kind }
-updated-fits new below h (some tombstone) k = tt
-updated-fits new below h (some (delta d)) k = record { fields = fields_fit new d.fields h k.fields; change = k.change }
+updated-fits new None h None k = tt
+updated-fits new (Some kind) h None k = record { fields = h; change = bare-fits kind }
+updated-fits new below h (Some tombstone) k = tt
+updated-fits new below h (Some (delta d)) k = record { fields = fields_fit new d.fields h k.fields; change = k.change }
 
 -- ---- normalise
 
 module _ (below : Text → Option ℕ) where
   normal-directory : (k : Option Kind) (p : Option ℕ) (added : Entries) (removed : Names) → ChangeFits Any (directory p added removed)
       → ChangeFits Any (normal_directory below k p added removed)
-  normal-directory none p added removed h = (h.0, (h.1.0, empty-fits))
-  normal-directory (some directory) p added removed h = (h.0, (keep-fits _ added h.1.0, keep-fits _ removed h.1.1))
-  normal-directory (some file) p added removed h = (h.0, (h.1.0, empty-fits))
-  normal-directory (some symlink) p added removed h = (h.0, (h.1.0, empty-fits))
-  normal-directory (some (special s)) p added removed h = (h.0, (h.1.0, empty-fits))
+  normal-directory None p added removed h = (h.0, (h.1.0, empty-fits))
+  normal-directory (Some directory) p added removed h = (h.0, (keep-fits _ added h.1.0, keep-fits _ removed h.1.1))
+  normal-directory (Some file) p added removed h = (h.0, (h.1.0, empty-fits))
+  normal-directory (Some symlink) p added removed h = (h.0, (h.1.0, empty-fits))
+  normal-directory (Some (special s)) p added removed h = (h.0, (h.1.0, empty-fits))
 
   normal-change : (k : Option Kind) (c : Change) → ChangeFits Any c → ChangeFits Any (normal_change below k c)
   normal-change k (directory p added removed) h = normal-directory k p added removed h

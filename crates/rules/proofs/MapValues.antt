@@ -1,9 +1,9 @@
 -- Maps with another value under each key, over any ordered keys.
+use Rattle.std.specs.Prelude.{None, Option, Some}
 use mathlib.Core.Path.{◌≡◌, refl}
-use mathlib.Core.Option.{Option, none, some}
 use mathlib.Core.List.{List, [], ◌∷◌, map}
-use Rattle.wire.specs.declared.order.Ordering.{Ordering}
-use Rattle.wire.specs.declared.order.Ordering.TheVariants.{Less, Equal, Greater}
+use Rattle.std.specs.declared.cmp.Ordering.{Ordering}
+use Rattle.std.specs.declared.cmp.Ordering.TheVariants.{Less, Equal, Greater}
 use Rattle.wire.specs.Order.{Order}
 use Rattle.wire.specs.Rows.{choose, lookup, Under, Rising}
 use Rattle.wire.specs.Maps.{Map, meet, empty, get, merge, map-ext, get-empty, get-merge}
@@ -33,7 +33,7 @@ module _ {K : Type 0} (O : Order K) {A B : Type 0} (f : A → B) where
   unfolding map_values get lookup
   get-map k m = go m.rows
     where
-      pick : (c : Ordering) (a : A) (o : Option A) → choose c (some (f a)) (map_if f o) ≡ map_if f (choose c (some a) o)
+      pick : (c : Ordering) (a : A) (o : Option A) → choose c (Some (f a)) (map_if f o) ≡ map_if f (choose c (Some a) o)
       pick Less a o = refl
       pick Equal a o = refl
       pick Greater a o = refl
@@ -49,8 +49,8 @@ module _ {K : Type 0} (O : Order K) {A B : Type 0} (f : A → B) where
 module _ {K : Type 0} (O : Order K) {A B C D : Type 0} (f : A → B) (e : C → D) (g : K → C → Option A → Option A) (h : K → D → Option B → Option B)
     (step : (k : K) (c : C) (o : Option A) → map_if f (g k c o) ≡ h k (e c) (map_if f o)) where
   met : (k : K) (c : Option C) (o : Option A) → map_if f (meet (g k) c o) ≡ meet (h k) (map_if e c) (map_if f o)
-  met k none o = refl
-  met k (some c) o = step k c o
+  met k None o = refl
+  met k (Some c) o = step k c o
 
   pub map-merge : (c : Map O C) (m : Map O A) → map_values O f (merge O g c m) ≡ merge O h (map_values O e c) (map_values O f m)
   map-merge c m =
@@ -62,5 +62,5 @@ pub map_same : {K A : Type 0} (O : Order K) (m : Map O A) → map_values O (λ (
 map_same {A = A} O m = map-ext O (map_values O (λ (a : A). a) m) m (λ k. rw get-map (go (get O k m)))
   where
     go : (o : Option A) → map_if (λ a. a) o ≡ o
-    go none = refl
-    go (some a) = refl
+    go None = refl
+    go (Some a) = refl

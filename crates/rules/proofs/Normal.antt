@@ -1,6 +1,6 @@
 -- Normalising a layer keeps the layers orderly and the table as it is.
+use Rattle.std.specs.Prelude.{IsSome, None, Option, Some}
 use mathlib.Core.Path.{◌≡◌, refl, ◌∙◌, ap, fun_ext}
-use mathlib.Core.Option.{Option, none, some, IsSome}
 use mathlib.Core.List.{List, [], ◌∷◌, ◌++◌}
 use mathlib.Core.Bool.{Bool, true, false, not}
 use Prim.Native.Nat.{ℕ}
@@ -26,17 +26,17 @@ use Rattle.rules.proofs.Lift.{over_below, over-right}
 
 -- at one name: what is added, removed and beneath
 at_name : (x : Option ℕ) (y : Option (Unit {0})) (z : Option ℕ) → (IsSome x → IsSome y → ⊥)
-    → meet (λ i o. some i) (sift (λ c. not (leads_to z c)) x) (meet (λ u o. none) (sift (λ u. is_there z) y) z) ≡ meet (λ i o. some i) x (meet (λ u o. none) y z)
-at_name none none none n = refl
-at_name none none (some j) n = refl
-at_name none (some u) none n = refl
-at_name none (some u) (some j) n = refl
-at_name (some c) (some u) z n = absurd (n tt tt)
-at_name (some c) none none n = refl
-at_name (some c) none (some j) n = go (eqb j c) refl
+    → meet (λ i o. Some i) (sift (λ c. not (leads_to z c)) x) (meet (λ u o. None) (sift (λ u. is_there z) y) z) ≡ meet (λ i o. Some i) x (meet (λ u o. None) y z)
+at_name None None None n = refl
+at_name None None (Some j) n = refl
+at_name None (Some u) None n = refl
+at_name None (Some u) (Some j) n = refl
+at_name (Some c) (Some u) z n = absurd (n tt tt)
+at_name (Some c) None None n = refl
+at_name (Some c) None (Some j) n = go (eqb j c) refl
   where
-    go : (b : Bool) → eqb j c ≡ b → meet (λ i o. some i) (elim (not b) [ true ↦ some c | false ↦ none ]) (some j) ≡ some c
-    go true e = ap some (eqb→eq j c (rw e tt))
+    go : (b : Bool) → eqb j c ≡ b → meet (λ i o. Some i) (elim (not b) [ true ↦ Some c | false ↦ None ]) (Some j) ≡ Some c
+    go true e = ap Some (eqb→eq j c (rw e tt))
     go false e = refl
 
 normal-entries : (a : Entries) (r : Names) (es : Entries) → Disjoint a r
@@ -46,15 +46,15 @@ normal-entries a r es n = map-ext by_bytes _ _ (λ k. simp (added-removed, get-k
 none-entries : (a : Entries) (r : Names) → add_all a (remove_all (empty by_bytes) (empty by_bytes)) ≡ add_all a (remove_all r (empty by_bytes))
 none-entries a r = map-ext by_bytes _ _ (λ k. simp (added-removed, get-empty) (go (get by_bytes k a) (get by_bytes k r)))
   where
-    go : (x : Option ℕ) (y : Option (Unit {0})) → meet (λ i o. some i) x none ≡ meet (λ i o. some i) x (meet (λ u o. none) y none)
-    go none none = refl
-    go none (some u) = refl
-    go (some c) y = refl
+    go : (x : Option ℕ) (y : Option (Unit {0})) → meet (λ i o. Some i) x None ≡ meet (λ i o. Some i) x (meet (λ u o. None) y None)
+    go None None = refl
+    go None (Some u) = refl
+    go (Some c) y = refl
 
 -- a kept row is a row
 sifted : {A : Type 0} (p : A → Bool) (o : Option A) → IsSome (sift p o) → IsSome o
-sifted p none h = h
-sifted p (some a) h = tt
+sifted p None h = h
+sifted p (Some a) h = tt
 
 less-disjoint : (below : Text → Option ℕ) (a : Entries) (r : Names) → Disjoint a r → Disjoint (less_added below a) (less_removed below r)
 less-disjoint below a r n k h i = n k (sifted _ (get by_bytes k a) (rw get-keep at h)) (sifted _ (get by_bytes k r) (rw get-keep at i))
@@ -64,14 +64,14 @@ none-removed a k x y = rw get-empty at y
 
 normal-kind : (below : Text → Option ℕ) (x y : Option Kind) (r : Record) → type.step (normal_record below x r) y ≡ type.step r y
 normal-kind below x y tombstone = refl
-normal-kind below x y (delta d) = ap some (go d.change x)
+normal-kind below x y (delta d) = ap Some (go d.change x)
   where
     go : (c : Change) (x : Option Kind) → changed_kind (normal_change below x c) ≡ changed_kind c
-    go (directory p a r) none = refl
-    go (directory p a r) (some directory) = refl
-    go (directory p a r) (some file) = refl
-    go (directory p a r) (some symlink) = refl
-    go (directory p a r) (some (special s)) = refl
+    go (directory p a r) None = refl
+    go (directory p a r) (Some directory) = refl
+    go (directory p a r) (Some file) = refl
+    go (directory p a r) (Some symlink) = refl
+    go (directory p a r) (Some (special s)) = refl
     go (file n) x = refl
     go (symlink t) x = refl
     go (special s d) x = refl
@@ -89,21 +89,21 @@ record Like (initial : Initial) (s r : Record) (n : Option Node) : Type 0 where
 module _ (initial : Initial) where
   like-directory : (f : Fields) (p : Option ℕ) (a : Entries) (r : Names) (n : Option Node) → Right (delta_of f (directory p a r)) (base_type n)
       → Like initial (delta_of f (normal_directory (λ k. base_child k n) (base_type n) p a r)) (delta_of f (directory p a r)) n
-  like-directory f p a r none h = record {
+  like-directory f p a r None h = record {
     same = rw (fold-none initial (record { fields = f; change = directory p a r }))
-        (fold-none initial _ ∙ ap some (λ i. record { meta = on_meta f (first_node initial (directory p a r)).meta; body = directory (given p 1) (none-entries a r i) }));
+        (fold-none initial _ ∙ ap Some (λ i. record { meta = on_meta f (first_node initial (directory p a r)).meta; body = directory (given p 1) (none-entries a r i) }));
     right = (h.0, none-removed a);
   }
-  like-directory f p a r (some n) h = go n.body h.0
+  like-directory f p a r (Some n) h = go n.body h.0
     where
       node : Body → Node
       node b = record { meta = n.meta; body = b }
 
-      go : (b : Body) → Kind.directory ≡ kind_of b → Like initial (delta_of f (normal_directory (λ k. base_child k (some (node b))) (base_type (some (node b))) p a r)) (delta_of f (directory p a r)) (some (node b))
-      go = only-directory (λ b. Like initial (delta_of f (normal_directory (λ k. base_child k (some (node b))) (base_type (some (node b))) p a r)) (delta_of f (directory p a r)) (some (node b)))
+      go : (b : Body) → Kind.directory ≡ kind_of b → Like initial (delta_of f (normal_directory (λ k. base_child k (Some (node b))) (base_type (Some (node b))) p a r)) (delta_of f (directory p a r)) (Some (node b))
+      go = only-directory (λ b. Like initial (delta_of f (normal_directory (λ k. base_child k (Some (node b))) (base_type (Some (node b))) p a r)) (delta_of f (directory p a r)) (Some (node b)))
           (λ q es. record {
             same = rw (fold_same initial (record { fields = f; change = directory p a r }) (node (directory q es)) refl)
-                (fold_same initial _ (node (directory q es)) refl ∙ ap some (λ i. record { meta = on_meta f n.meta; body = directory (given p q) (normal-entries a r es h.1 i) }));
+                (fold_same initial _ (node (directory q es)) refl ∙ ap Some (λ i. record { meta = on_meta f n.meta; body = directory (given p q) (normal-entries a r es h.1 i) }));
             right = (refl, less-disjoint (λ k. get by_bytes k es) a r h.1);
           })
 
@@ -127,12 +127,12 @@ stack-below i (l ∷ ls) rs b o = over_below (get by_number i l) rs b (stack-bel
 
 over-type : (q : Option Record) (rs ss : List Record) (b : Option Node) → look type ss b ≡ look type rs b → look type (over? q ss) b ≡ look type (over? q rs) b
 unfolding look
-over-type none rs ss b e = e
-over-type (some r) rs ss b e = ap (type.step r) e
+over-type None rs ss b e = e
+over-type (Some r) rs ss b e = ap (type.step r) e
 
 over-again : (q : Option Record) (rs ss : List Record) (b : Option Node) → look type ss b ≡ look type rs b → OrderlyStack ss b → OrderlyStack (over? q rs) b → OrderlyStack (over? q ss) b
-over-again none rs ss b e o h = o
-over-again (some r) rs ss b e o h = (rw e h.0, o)
+over-again None rs ss b e o h = o
+over-again (Some r) rs ss b e o h = (rw e h.0, o)
 
 stack-again : (i : ℕ) (ls : List Layer) (rs ss : List Record) (b : Option Node) → look type ss b ≡ look type rs b → OrderlyStack ss b
     → OrderlyStack (stack_on i ls rs) b → OrderlyStack (stack_on i ls ss) b
@@ -155,9 +155,9 @@ module _ (initial : Initial) where
       (fun_ext (λ k. read-folded initial (child k) (child-law initial k) (stack i bs) (get by_number i t) (o i))))
     where
       go : (q : Option Record) {n : Option Node} {x : Option Kind} {see : Text → Option ℕ} → get by_number i (fold_all initial bs t) ≡ n → x ≡ base_type n → see ≡ (λ k. base_child k n)
-          → meet (λ r o. some (normal_record see x r)) q none ≡ map_if (normal bs t i) q
-      go none a b c = refl
-      go (some r) a b c = rw (a, b, c)
+          → meet (λ r o. Some (normal_record see x r)) q None ≡ map_if (normal bs t i) q
+      go None a b c = refl
+      go (Some r) a b c = rw (a, b, c)
 
   module _ (bs : List Layer) (l : Layer) (ms : List Layer) (t : Base) (o : OrderlyLayers (bs ++ (l ∷ ms)) t) where
     at-stack : (i : ℕ) (l : Layer) → stack i (bs ++ (l ∷ ms)) ≡ stack_on i ms (over? (get by_number i l) (stack i bs))
@@ -181,8 +181,8 @@ module _ (initial : Initial) where
         (go (get by_number i l) (get by_number i (fold_all initial bs t)) (here-right i)))))
       where
         go : (q : Option Record) (n : Option Node) → Right? q (base_type n) → meet (fold_record initial) (map_if (normal_record (λ k. base_child k n) (base_type n)) q) n ≡ meet (fold_record initial) q n
-        go none n h = refl
-        go (some r) n h = (like-record initial r n h).same
+        go None n h = refl
+        go (Some r) n h = (like-record initial r n h).same
 
     pub normal-orderly : OrderlyLayers (bs ++ (normal_layer bs t l ∷ ms)) t
     unfolding look
@@ -190,9 +190,9 @@ module _ (initial : Initial) where
         (stack-again i ms (over? (get by_number i l) (stack i bs)) _ (get by_number i t) (types (get by_number i l)) (order (get by_number i l) (here-right i)) (rw at-stack at (o i)))
       where
         types : (q : Option Record) → look type (over? (map_if (normal bs t i) q) (stack i bs)) (get by_number i t) ≡ look type (over? q (stack i bs)) (get by_number i t)
-        types none = refl
-        types (some r) = normal-kind (λ k. base_child k (get by_number i (fold_all initial bs t))) (base_type (get by_number i (fold_all initial bs t))) (look type (stack i bs) (get by_number i t)) r
+        types None = refl
+        types (Some r) = normal-kind (λ k. base_child k (get by_number i (fold_all initial bs t))) (base_type (get by_number i (fold_all initial bs t))) (look type (stack i bs) (get by_number i t)) r
 
         order : (q : Option Record) → Right? q (base_type (get by_number i (fold_all initial bs t))) → OrderlyStack (over? (map_if (normal bs t i) q) (stack i bs)) (get by_number i t)
-        order none h = under-orderly i
-        order (some r) h = (rw (type-folded initial (stack i bs) (get by_number i t) (under-orderly i), ← (get-table initial i bs t)) (like-record initial r (get by_number i (fold_all initial bs t)) h).right, under-orderly i)
+        order None h = under-orderly i
+        order (Some r) h = (rw (type-folded initial (stack i bs) (get by_number i t) (under-orderly i), ← (get-table initial i bs t)) (like-record initial r (get by_number i (fold_all initial bs t)) h).right, under-orderly i)

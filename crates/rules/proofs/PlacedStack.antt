@@ -1,6 +1,6 @@
 -- The placed stack of an inode is the stack of its store, and a survey's places are its places.
+use Rattle.std.specs.Prelude.{None, Option, Some}
 use mathlib.Core.Path.{◌≡◌, refl, sym, ap, ◌∙◌}
-use mathlib.Core.Option.{Option, none, some}
 use mathlib.Core.List.{List, [], ◌∷◌, ◌++◌, reverse, reverse_aux}
 use Prim.Native.Nat.{ℕ, ◌-◌}
 use native.Mathlib.Omega.{arith}
@@ -18,13 +18,10 @@ use Rattle.image.specs.NodeLayout.{node, base}
 use Rattle.image.specs.RecordLayout.{layer_record, records}
 use Rattle.image.specs.StoreLayout.{batches, store}
 use Rattle.image.specs.Places.{passed, Ends, Holds}
-use Rattle.passes.specs.Held.{place_of}
 use Rattle.survey.specs.Gathering.{deltas_of}
 use Rattle.survey.specs.Survey.{Surveys}
 use Rattle.image.specs.RoundTrip.{read_image}
 use Rattle.survey.specs.declared.store.Survey.{Survey}
-use Rattle.passes.specs.declared.inode.Place.{Place}
-use Rattle.passes.specs.declared.inode.Place.TheVariants as P
 use Rattle.image.proofs.Holding.{suffix-drop, suffix-rest}
 use Rattle.survey.proofs.Surveyed.{AllHold, if_there, batch_records, records_of, survey-holds}
 use Rattle.rules.specs.Stacks.{over?, stack_on, stack, with_live, layers}
@@ -62,7 +59,7 @@ module _ {A : Type 0} {img : List ℕ} (c : Codec A) where
 -- ---- places
 
 -- The places that a survey found are the places of the definitions.
-pub survey-node : {img : List ℕ} {i : ℕ} {r : Survey} {q : ℕ} → Surveys img i r → r.end ≡ At q → place_of r.stack.base ≡ node_place img i
+pub survey-node : {img : List ℕ} {i : ℕ} {r : Survey} {q : ℕ} → Surveys img i r → r.end ≡ At q → r.stack.base ≡ node_place img i
 unfolding node_place
 survey-node {q = q} w e = w.node q e
 
@@ -71,14 +68,14 @@ unfolding record_places
 survey-records {r = r} {q} w e = rw (ends-after base r.batches w.base, ends-after batches r.live w.batches) (w.deltas q e)
 
 -- a survey by the definitions
-as_place : Option ℕ → Place
-as_place none = P.Nowhere
-as_place (some p) = P.At p
+as_place : Option ℕ → Option ℕ
+as_place None = None
+as_place (Some p) = Some p
 
-place-as : (o : Option ℕ) → place_of (as_place o) ≡ o
+place-as : (o : Option ℕ) → (as_place o) ≡ o
 unfolding as_place
-place-as none = refl
-place-as (some p) = refl
+place-as None = refl
+place-as (Some p) = refl
 
 module _ (img : List ℕ) (i : ℕ) where
   abbrev surveyed : Survey
@@ -114,10 +111,10 @@ places-hold img i e =
     (rw (place-as (node_place img i)) at h.node_held, rw (take-length (record_places img i)) at h.records_held)
 
 node-read : (img : List ℕ) (o : Option ℕ) (n : Option Node) → Holds img node.read o n → unplaced_node (node_at img o) ≡ n
-node-read img none none h = refl
-node-read img none (some n) h = absurd h
-node-read img (some p) none h = absurd h
-node-read img (some p) (some n) h = rw h.1
+node-read img None None h = refl
+node-read img None (Some n) h = absurd h
+node-read img (Some p) None h = absurd h
+node-read img (Some p) (Some n) h = rw h.1
 
 records-read : (img : List ℕ) (ps : List ℕ) (l : List Record) (rs : List (Placed Record)) → AllHold img layer_record.read ps l
     → unplaced (records_on img ps rs) ≡ reverse_aux l (unplaced rs)
@@ -134,14 +131,14 @@ unfolding stack_on
 stack-on i [] live rs = go (get by_number i live)
   where
     go : (o : Option Record) → over? o rs ≡ reverse_aux (if_there o) rs
-    go none = refl
-    go (some r) = refl
+    go None = refl
+    go (Some r) = refl
 stack-on i (b ∷ bs) live rs = go (get by_number i b.records) (stack-on i bs live)
   where
     go : (o : Option Record) → ((us : List Record) → stack_on i (with_live bs live) us ≡ reverse_aux (batch_records i bs ++ if_there (get by_number i live)) us)
         → stack_on i (with_live bs live) (over? o rs) ≡ reverse_aux ((if_there o ++ batch_records i bs) ++ if_there (get by_number i live)) rs
-    go none ih = ih rs
-    go (some r) ih = ih (r ∷ rs)
+    go None ih = ih rs
+    go (Some r) ih = ih (r ∷ rs)
 
 pub stack-records : (i : ℕ) (s : Store) → stack i (layers s) ≡ reverse (records_of i s)
 stack-records i s = stack-on i s.batches s.live []

@@ -1,6 +1,6 @@
 -- The calls over bytes on one small image, computed.
+use Rattle.std.specs.Prelude.{None, Some}
 use mathlib.Core.Path.{refl}
-use mathlib.Core.Option.{none, some}
 use mathlib.Core.List.{List, [], ◌∷◌}
 use mathlib.Core.Bool.{true, false}
 use Prim.Native.Nat.{ℕ}
@@ -48,9 +48,9 @@ row start inode = record { start = start; «length» = 1; inode = inode }
 -- a and b stand in live, c in the base; w and x where live sets them
 abbrev listings : List Claim
 listings =
-    claim (list_directory usual image 1 3) (answer (some (row 47 9 ∷ row 50 8 ∷ row 25 5 ∷ [])))
-    ∷ claim (list_xattrs usual image 1 2) (answer (some (row 35 0 ∷ row 40 0 ∷ [])))
-    ∷ claim (list_directory usual image 2 3) (answer none)
+    claim (list_directory usual image 1 3) (answer (Some (row 47 9 ∷ row 50 8 ∷ row 25 5 ∷ [])))
+    ∷ claim (list_xattrs usual image 1 2) (answer (Some (row 35 0 ∷ row 40 0 ∷ [])))
+    ∷ claim (list_directory usual image 2 3) (answer None)
     ∷ claim (filled (list_xattrs usual image 1 3) (row 7 7 ∷ row 8 8 ∷ row 9 9 ∷ [])) (row 35 0 ∷ row 40 0 ∷ row 9 9 ∷ [])
     ∷ []
 
@@ -58,12 +58,12 @@ listings =
 abbrev reads : List Claim
 reads =
     claim (exists usual image 1) (answer true)
-    ∷ claim (file_type usual image 1) (answer (some directory))
-    ∷ claim (lookup_child usual image 1 b) (answer (some 8))
-    ∷ claim (perm_of (attr usual image 1)) (some 0o755)
+    ∷ claim (file_type usual image 1) (answer (Some directory))
+    ∷ claim (lookup_child usual image 1 b) (answer (Some 8))
+    ∷ claim (perm_of (attr usual image 1)) (Some 0o755)
     ∷ claim (text_of (read_link usual image 1)) []
     ∷ claim (has_link usual image 1) (answer false)
-    ∷ claim (parent_dir_inode usual image 1) (answer (some 1))
+    ∷ claim (parent_dir_inode usual image 1) (answer (Some 1))
     ∷ claim (text_of (get_xattr usual image 1 (120 ∷ []))) (51 ∷ [])
     ∷ claim (has_xattr usual image 1 a) (answer false)
     ∷ []

@@ -1,5 +1,5 @@
 -- A list is no longer than what is written of it. So what fits with some counts, and is written in n bytes, fits with counts up to n.
-use mathlib.Core.Option.{Option, none, some}
+use Rattle.std.specs.Prelude.{None, Option, Some}
 use mathlib.Core.List.{List, [], ◌∷◌, ◌++◌}
 use Prim.Native.Nat.{ℕ, ◌≤◌}
 use native.Mathlib.Omega.{arith}
@@ -27,7 +27,7 @@ text-one t = omega (arith, number-one (length t), length-append (number_bytes (l
 
 -- what is written of a list behind its count
 abbrev row_bytes : {K A : Type 0} (O : Order K) → Codec K → Codec A → Map O A → List ℕ
-row_bytes O key value m = chain_write (row O key value) (onto O key value) none m.rows
+row_bytes O key value m = chain_write (row O key value) (onto O key value) None m.rows
 
 module _ (C Q : ℕ → Type 0) where
   -- Q holds of each number up to the length of s
@@ -40,18 +40,18 @@ module _ (C Q : ℕ → Type 0) where
     rows_short : (prev : Option K) (l : List (K × A)) → length l ≤ length (chain_write (row O key value) (onto O key value) prev l)
     rows_short prev [] = omega arith
     rows_short prev (e ∷ l) =
-        let w = chain_write (row O key value) (onto O key value) (some e.0) l in
-        omega (arith, rows_short (some e.0) l, one e.0, length-append (key.write e.0) (value.write e.1), length-append (key.write e.0 ++ value.write e.1) w)
+        let w = chain_write (row O key value) (onto O key value) (Some e.0) l in
+        omega (arith, rows_short (Some e.0) l, one e.0, length-append (key.write e.0) (value.write e.1), length-append (key.write e.0 ++ value.write e.1) w)
 
     module _ (P : K → Type 0) {X Y : A → Type 0} (each : (v : A) → X v → Upto (value.write v) → Y v) where
       every-row : (prev : Option K) (l : List (K × A)) → Every (λ e. P e.0 × X e.1) l → Upto (chain_write (row O key value) (onto O key value) prev l)
           → Every (λ e. P e.0 × Y e.1) l
       every-row prev [] h u = tt
       every-row prev (e ∷ l) h u =
-          ((h.0.0, each e.1 h.0.1 (λ k h. u k (simp length-append (omega arith)))), every-row (some e.0) l h.1 (λ k h. u k (simp length-append (omega arith))))
+          ((h.0.0, each e.1 h.0.1 (λ k h. u k (simp length-append (omega arith)))), every-row (Some e.0) l h.1 (λ k h. u k (simp length-append (omega arith))))
 
       recount-map : (m : Map O A) → MapFits C P X m → Upto (row_bytes O key value m) → MapFits Q P Y m
-      recount-map m h u = record { count = u (length m.rows) (rows_short none m.rows); each = every-row none m.rows h.each u }
+      recount-map m h u = record { count = u (length m.rows) (rows_short None m.rows); each = every-row None m.rows h.each u }
 
   -- ---- the base
 
@@ -86,8 +86,8 @@ module _ (C Q : ℕ → Type 0) where
   -- ---- the layers
 
   recount-changes : (o : Option Changes) → IfGiven (ChangesFits C) o → Upto (opt_write changes o) → IfGiven (ChangesFits Q) o
-  recount-changes none h u = tt
-  recount-changes (some c) h u = recount-names (maybe value) c h (λ k h. u k (simp length-append (omega arith)))
+  recount-changes None h u = tt
+  recount-changes (Some c) h u = recount-names (maybe value) c h (λ k h. u k (simp length-append (omega arith)))
 
   pub recount-fields : (f : Fields) → FieldsFits C f → Upto (fields.write f) → FieldsFits Q f
   unfolding fields
@@ -125,7 +125,7 @@ module _ (C Q : ℕ → Type 0) where
   recount-batches prev (b ∷ bs) h u =
       let f = h.0 in (
         record { id = f.id; bytes = f.bytes; operations = f.operations; reason = f.reason; committed = f.committed; records = recount-layer b.records f.records (λ k h. u k (simp length-append (omega arith))) },
-        recount-batches (some b.id) bs h.1 (λ k h. u k (simp length-append (omega arith))),
+        recount-batches (Some b.id) bs h.1 (λ k h. u k (simp length-append (omega arith))),
       )
 
   -- ---- the store
@@ -134,7 +134,7 @@ module _ (C Q : ℕ → Type 0) where
   unfolding store batches
   recount-store s h u = record {
     base = recount-map by_number inode node number-one FitsInode recount-node s.base h.base (λ k h. u k (simp length-append (omega arith)));
-    batches = record { count = h.batches.count; each = recount-batches none s.batches h.batches.each (λ k h. u k (simp length-append (omega arith))); rising = h.batches.rising };
+    batches = record { count = h.batches.count; each = recount-batches None s.batches h.batches.each (λ k h. u k (simp length-append (omega arith))); rising = h.batches.rising };
     live = recount-layer s.live h.live (λ k h. u k (simp length-append (omega arith)));
     next = h.next;
     ids = h.ids;

@@ -1,6 +1,6 @@
 -- The new store of a call that is not refused has an image, where that is at most 65,536 bytes long.
+use Rattle.std.specs.Prelude.{None, Some}
 use mathlib.Core.Path.{◌≡◌}
-use mathlib.Core.Option.{none, some}
 use mathlib.Core.List.{List, [], ◌∷◌}
 use native.Mathlib.Omega.{arith}
 use Rattle.wire.specs.Parse.{got}
@@ -45,11 +45,11 @@ module _ (initial : Initial) (ok : FitsInitial initial) where
   front_fits [] base h k = k
   front_fits (b ∷ bs) base h k = layer_fits initial ok b.records base h.0.records k
 
-  call_fits : (c : Call) (s : Store) → FitsCall c → refusal c s ≡ none → StoreFits Any s → StoreFits Any (result initial c s)
+  call_fits : (c : Call) (s : Store) → FitsCall c → refusal c s ≡ None → StoreFits Any s → StoreFits Any (result initial c s)
   unfolding result
-  call_fits (Call.insert i none) s f e h = h
-  call_fits (Call.insert i (some r)) s f e h = on-live-fits i (λ o. some r) s f.0 (λ o k. any-record r f.1) h
-  call_fits (Call.tombstone i) s f e h = on-live-fits i (λ o. some tombstone) s f (λ o k. tt) h
+  call_fits (Call.insert i None) s f e h = h
+  call_fits (Call.insert i (Some r)) s f e h = on-live-fits i (λ o. Some r) s f.0 (λ o k. any-record r f.1) h
+  call_fits (Call.tombstone i) s f e h = on-live-fits i (λ o. Some tombstone) s f (λ o k. tt) h
   call_fits (Call.add i name inode t) s f e h =
       let n = named-fits name t f.1 f.3 e in
       on-live-fits i (on_directory (adding name inode t)) s f.0 (directory-fits (adding name inode t) (adding-fits name inode t n.0 f.2 n.1)) h
@@ -58,8 +58,8 @@ module _ (initial : Initial) (ok : FitsInitial initial) where
       on-live-fits i (on_directory (removing name t)) s f.0 (directory-fits (removing name t) (removing-fits name t n.0 n.1)) h
   call_fits (Call.set_parent i p) s f e h =
       on-live-fits i (on_directory (setting_parent p)) s f.0 (directory-fits (setting_parent p) (parent-fits p f.1)) h
-  call_fits (Call.update i none) s f e h = h
-  call_fits (Call.update i (some new)) s f e h =
+  call_fits (Call.update i None) s f e h = h
+  call_fits (Call.update i (Some new)) s f e h =
       on-live-fits i (updated new (type_below s i)) s f.0 (updated-fits new (type_below s i) (any-fields new f.1)) h
   call_fits (Call.normalise p) s f e h = normalised-fits p s h
   call_fits (Call.freeze limits t) s f e h =
@@ -87,14 +87,14 @@ module _ (initial : Initial) (ok : FitsInitial initial) where
   }
 
   -- the new store fits an image
-  pub result_fits : (c : Call) (s : Store) → FitsStore s → FitsCall c → refusal c s ≡ none → InRoom (result initial c s) → FitsStore (result initial c s)
+  pub result_fits : (c : Call) (s : Store) → FitsStore s → FitsCall c → refusal c s ≡ None → InRoom (result initial c s) → FitsStore (result initial c s)
   result_fits c s h f e room = in-room (result initial c s) room (call_fits c s f e (any-store s h))
 
   pub snapshot-fits : (s : Store) → FitsStore s → InRoom (snapshot initial s) → FitsStore (snapshot initial s)
   snapshot-fits s h room = in-room (snapshot initial s) room (any-snapshot s (any-store s h))
 
   -- so that what is written of it is read as that store
-  pub result-image : (c : Call) (s : Store) → FitsStore s → FitsCall c → refusal c s ≡ none → InRoom (result initial c s)
+  pub result-image : (c : Call) (s : Store) → FitsStore s → FitsCall c → refusal c s ≡ None → InRoom (result initial c s)
       → read_image (write_image (result initial c s)) ≡ got (result initial c s) []
   result-image c s h f e room = (one-image (result initial c s) (result_fits c s h f e room)).0
 

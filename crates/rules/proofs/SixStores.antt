@@ -1,6 +1,6 @@
 -- The six stores of document 01 that "must not verify": no behaviour of such a sort meets demand 3 on bytes.
+use Rattle.std.specs.Prelude.{None, Option, Some}
 use mathlib.Core.Path.{◌≡◌, refl, sym, ap, ◌∙◌}
-use mathlib.Core.Option.{Option, none, some}
 use mathlib.Core.List.{List, [], ◌∷◌}
 use mathlib.Core.Bool.{true, false}
 use Prim.Native.Nat.{ℕ}
@@ -70,7 +70,7 @@ staged-sample = record { fits = omega arith; room = omega arith; orderly = stays
 
 -- the base has file 5, and the second batch, which is the front, removes it
 abbrev old_file : Store
-old_file = over_base 2 (put by_number 5 (some (node_of (file 0))) (empty by_number))
+old_file = over_base 2 (put by_number 5 (Some (node_of (file 0))) (empty by_number))
 
 abbrev later : Store
 later = run (Call.tombstone 5 ∷ freeze ∷ []) old_file
@@ -96,7 +96,7 @@ module _ (B : Behaviour) (meets : Meets-3 B usual) {s : Store} (S : Sample s) wh
   first : Agrees B usual s [] (write_image s)
   first = meets (write_image s) s (record { short = S.room; holds = (one-image s S.fits).0; orderly = S.orderly }) [] tt
 
-  first-call : (c : Called) → refusal (meant c.call) s ≡ none → has_room c.target (result usual (meant c.call) s) ≡ true
+  first-call : (c : Called) → refusal (meant c.call) s ≡ None → has_room c.target (result usual (meant c.call) s) ≡ true
       → answered B c (write_image s) ≡ answer (write_image (result usual (meant c.call) s))
   unfolding image_after_all change
   first-call c e r = first.results c ∙ on-image usual (meant c.call) c.target s S.fits S.room ∙ rw (e, r) refl
@@ -140,7 +140,7 @@ module _ (B : Behaviour) (meets : Meets-3 B usual) where
   pub not_none : SaysNone B → ⊥
   unfolding reply look stack_on get put merge over set insert remove lookup empty fold_all
   not_none w =
-      let e : B.read (Ask.child 1 a) (write_image root) ≡ answer (some 7) = first_read B meets root-sample (Ask.child 1 a) in
+      let e : B.read (Ask.child 1 a) (write_image root) ≡ answer (Some 7) = first_read B meets root-sample (Ask.child 1 a) in
       let f = w 1 a (write_image root) in
       never cc
 
@@ -159,7 +159,7 @@ module _ (B : Behaviour) (meets : Meets-3 B usual) where
       let e = first-call B meets later-sample (largest CodeCall.fold_entries tt) refl refl in
       let i = result-image usual usual-fits Call.fold later later-sample.fits tt refl (omega arith) in
       let f = w (write_image later) 65536 _ later _ (one-image later later-sample.fits).0 refl e i in
-      let z : none ≡ some (node_of (file 0)) = ap fifth f in
+      let z : None ≡ Some (node_of (file 0)) = ap fifth f in
       never cc
 
   -- pop of the first of two
@@ -191,7 +191,7 @@ module _ (B : Behaviour) (meets : Meets-3 B usual) where
   pub not-rows : ReportsRows B → ⊥
   unfolding reply look stack_on get put merge over set insert remove lookup empty fold_all
   not-rows w =
-      let e : B.read (Ask.listing 1 1) (write_image root) ≡ answer (some ((a, 7) ∷ [])) = first_read B meets root-sample (Ask.listing 1 1) in
+      let e : B.read (Ask.listing 1 1) (write_image root) ≡ answer (Some ((a, 7) ∷ [])) = first_read B meets root-sample (Ask.listing 1 1) in
       let f = w 1 1 (write_image root) in
       never cc
 

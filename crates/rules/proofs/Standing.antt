@@ -1,12 +1,12 @@
 -- A name stands in the image at its start: the part of the image there, as long as the name, is the name.
+use Rattle.std.specs.Prelude.{None, Option, Some}
 use mathlib.Core.Path.{◌≡◌, refl, ap, ◌∙◌}
-use mathlib.Core.Option.{Option, none, some}
 use mathlib.Core.List.{List, [], ◌∷◌, ◌++◌, append_assoc}
 use Prim.Native.Nat.{ℕ, ◌+◌}
 use lib.ListN.{length, take, drop}
 use lib.Seq.{take-append_seam}
-use Rattle.wire.specs.declared.order.Ordering.{Ordering}
-use Rattle.wire.specs.declared.order.Ordering.TheVariants.{Less, Equal, Greater}
+use Rattle.std.specs.declared.cmp.Ordering.{Ordering}
+use Rattle.std.specs.declared.cmp.Ordering.TheVariants.{Less, Equal, Greater}
 use Rattle.wire.specs.Parse.{Parsed, fault, got}
 use Rattle.wire.specs.Number.{number_bytes}
 use Rattle.wire.specs.Text.{text_bytes}
@@ -54,12 +54,12 @@ module _ (img : List ℕ) where
     rows-stand prev q [] t e k = tt
     rows-stand prev q (e ∷ l) t d k =
         let w = name.write e.0 ++ value.write e.1 in
-        let r = rows_written (some e.0) l ++ t in
-        let whole : drop q img ≡ w ++ r = d ∙ append_assoc w (rows_written (some e.0) l) t in
-        go (by_bytes.cmp k e.0) _ _ refl (name-stands q e.0 (value.write e.1) r whole) (rows-stand (some e.0) (q + length w) l t (on img q w r whole) k)
+        let r = rows_written (Some e.0) l ++ t in
+        let whole : drop q img ≡ w ++ r = d ∙ append_assoc w (rows_written (Some e.0) l) t in
+        go (by_bytes.cmp k e.0) _ _ refl (name-stands q e.0 (value.write e.1) r whole) (rows-stand (Some e.0) (q + length w) l t (on img q w r whole) k)
       where
         go : (c : Ordering) (start : ℕ) (o : Option (ℕ × A)) → by_bytes.cmp k e.0 ≡ c → Stands e.0 start → IfGiven (λ x. Stands k x.0) o
-            → IfGiven (λ x. Stands k x.0) (choose c (some (start, e.1)) o)
+            → IfGiven (λ x. Stands k x.0) (choose c (Some (start, e.1)) o)
         go Less start o h s ih = ih
         go Greater start o h s ih = ih
         go Equal start o h s ih = rw (by_bytes.same k e.0 h) s
@@ -68,7 +68,7 @@ module _ (img : List ℕ) where
     unfolding get starts
     starts-stand p m t e =
         let n = number_bytes (length m.rows) in
-        rows-stand none (p + length n) m.rows t (on img p n (rows_written none m.rows ++ t) (e ∙ append_assoc n (rows_written none m.rows) t))
+        rows-stand None (p + length n) m.rows t (on img p n (rows_written None m.rows ++ t) (e ∙ append_assoc n (rows_written None m.rows) t))
 
 -- ---- what a placed stack shows
 
@@ -80,13 +80,13 @@ module _ (img : List ℕ) where
   read_here : {A : Type 0} (c : Codec A) (p : ℕ) → IfGiven (Here c) (read_at c img p)
   read_here {A} c p = go (c.read (drop p img)) refl
     where
-      go : (o : Parsed A) → c.read (drop p img) ≡ o → IfGiven (Here c) (if_read o (λ a r. some (record { place = p; held = a })))
+      go : (o : Parsed A) → c.read (drop p img) ≡ o → IfGiven (Here c) (if_read o (λ a r. Some (record { place = p; held = a })))
       go (fault f) e = tt
       go (got a r) e = (r, e)
 
   node-here : (o : Option ℕ) → IfGiven (Here node) (node_at img o)
-  node-here none = tt
-  node-here (some p) = read_here node p
+  node-here None = tt
+  node-here (Some p) = read_here node p
 
   records-here : (ps : List ℕ) (rs : List (Placed Record)) → Every (Here layer_record) rs → Every (Here layer_record) (records_on img ps rs)
   unfolding records_on
@@ -94,36 +94,36 @@ module _ (img : List ℕ) where
   records-here (p ∷ ps) rs h = records-here ps (on_top (read_at layer_record img p) rs) (go (read_at layer_record img p) (read_here layer_record p))
     where
       go : (o : Option (Placed Record)) → IfGiven (Here layer_record) o → Every (Here layer_record) (on_top o rs)
-      go none k = h
-      go (some r) k = (k, h)
+      go None k = h
+      go (Some r) k = (k, h)
 
   none-stand : (A : Type 0) → Standing img (empty by_bytes {A = ℕ × A})
   none-stand A k = rw get-empty tt
 
-  added-stand : (added es : Started ℕ) → Standing img added → Standing img es → Standing img (merge by_bytes (λ name new old. some new) added es)
+  added-stand : (added es : Started ℕ) → Standing img added → Standing img es → Standing img (merge by_bytes (λ name new old. Some new) added es)
   added-stand added es h s k = rw get-merge (go (get by_bytes k added) (h k))
     where
-      go : (o : Option (ℕ × ℕ)) → IfGiven (λ x. Stands img k x.0) o → IfGiven (λ x. Stands img k x.0) (meet (λ new old. some new) o (get by_bytes k es))
-      go none f = s k
-      go (some x) f = f
+      go : (o : Option (ℕ × ℕ)) → IfGiven (λ x. Stands img k x.0) o → IfGiven (λ x. Stands img k x.0) (meet (λ new old. Some new) o (get by_bytes k es))
+      go None f = s k
+      go (Some x) f = f
 
-  removed-stand : (removed : Names) (es : Started ℕ) → Standing img es → Standing img (merge by_bytes (λ name u old. none) removed es)
+  removed-stand : (removed : Names) (es : Started ℕ) → Standing img es → Standing img (merge by_bytes (λ name u old. None) removed es)
   removed-stand removed es s k = rw get-merge (go (get by_bytes k removed))
     where
-      go : (o : Option (Unit {0})) → IfGiven (λ x. Stands img k x.0) (meet (λ u old. none) o (get by_bytes k es))
-      go none = s k
-      go (some u) = tt
+      go : (o : Option (Unit {0})) → IfGiven (λ x. Stands img k x.0) (meet (λ u old. None) o (get by_bytes k es))
+      go None = s k
+      go (Some u) = tt
 
   altered-stand : (cs : Started (Option Text)) (vs : Started Text) → Standing img cs → Standing img vs → Standing img (merge by_bytes (λ name c old. set_start c) cs vs)
   altered-stand cs vs h s k = rw get-merge (go (get by_bytes k cs) (h k))
     where
       set : (start : ℕ) (o : Option Text) → Stands img k start → IfGiven (λ x. Stands img k x.0) (set_start (start, o))
-      set start none f = tt
-      set start (some v) f = f
+      set start None f = tt
+      set start (Some v) f = f
 
       go : (o : Option (ℕ × Option Text)) → IfGiven (λ x. Stands img k x.0) o → IfGiven (λ x. Stands img k x.0) (meet (λ c old. set_start c) o (get by_bytes k vs))
-      go none f = s k
-      go (some x) f = set x.0 x.1 f
+      go None f = s k
+      go (Some x) f = set x.0 x.1 f
 
   -- ---- entries
 
@@ -136,7 +136,7 @@ module _ (img : List ℕ) where
   change-stands : (p : ℕ) (f : Fields) (c : Change) (r : List ℕ) → layer_record.read (drop p img) ≡ got (delta (record { fields = f; change = c })) r → (es : Started ℕ)
       → Standing img es → Standing img (change_starts p f c es)
   change-stands p f (directory parent added removed) r e es s =
-      added-stand (starts inode (added_at p f parent) added) (merge by_bytes (λ name u old. none) removed es)
+      added-stand (starts inode (added_at p f parent) added) (merge by_bytes (λ name u old. None) removed es)
       (starts-stand img inode (added_at p f parent) added (names.write removed ++ r) (added-at img p f parent added removed r e)) (removed-stand removed es s)
   change-stands p f (file n) r e es s = s
   change-stands p f (symlink t) r e es s = s
@@ -148,16 +148,16 @@ module _ (img : List ℕ) where
 
   entries-stand : (rs : List (Placed Record)) (b : Option (Placed Node)) → Every (Here layer_record) rs → IfGiven (Here node) b → Standing img (look_placed placed_entries rs b)
   unfolding look_placed
-  entries-stand [] none h k = none-stand ℕ
-  entries-stand [] (some n) h k = body-stands n.place n.held.meta n.held.body k.0 k.1
+  entries-stand [] None h k = none-stand ℕ
+  entries-stand [] (Some n) h k = body-stands n.place n.held.meta n.held.body k.0 k.1
   entries-stand (r ∷ rs) b h k = record-stands r.place r.held h.0.0 h.0.1 (look_placed placed_entries rs b) (entries-stand rs b h.1 k)
 
   -- ---- attributes
 
   alter-stands : (p : ℕ) (d : Delta) (r : List ℕ) → layer_record.read (drop p img) ≡ got (delta d) r → (o : Option Changes) → d.fields.attributes ≡ o → (vs : Started Text)
       → Standing img vs → Standing img (meet (alter_starts p d.fields) o vs)
-  alter-stands p d r e none a vs s = s
-  alter-stands p d r e (some cs) a vs s =
+  alter-stands p d r e None a vs s = s
+  alter-stands p d r e (Some cs) a vs s =
       let c = changes-at img p d cs r e a in
       altered-stand (starts (maybe value) (changes_at p d.fields cs) cs) vs (starts-stand img (maybe value) (changes_at p d.fields cs) cs c.0 c.1) s
 
@@ -167,8 +167,8 @@ module _ (img : List ℕ) where
 
   values-stand : (rs : List (Placed Record)) (b : Option (Placed Node)) → Every (Here layer_record) rs → IfGiven (Here node) b → Standing img (look_placed placed_values rs b)
   unfolding look_placed
-  values-stand [] none h k = none-stand Text
-  values-stand [] (some n) h k =
+  values-stand [] None h k = none-stand Text
+  values-stand [] (Some n) h k =
       let a = attributes-at img n.place n.held k.0 k.1 in
       starts-stand img value (attributes_at n.place n.held.meta) n.held.meta.attributes a.0 a.1
   values-stand (r ∷ rs) b h k = record-values r.place r.held h.0.0 h.0.1 (look_placed placed_values rs b) (values-stand rs b h.1 k)
@@ -190,7 +190,7 @@ module _ {A : Type 0} (P : Text → A → Type 0) where
   each_row [] r h = tt
   each_row (e ∷ l) r h = (rw (by_bytes.self e.0) at (h e.0), each_row l r.1 (λ k. go k (by_bytes.cmp k e.0) refl (h k)))
     where
-      go : (k : Text) (c : Ordering) → by_bytes.cmp k e.0 ≡ c → IfGiven (P k) (choose c (some e.1) (lookup by_bytes k l)) → IfGiven (P k) (lookup by_bytes k l)
+      go : (k : Text) (c : Ordering) → by_bytes.cmp k e.0 ≡ c → IfGiven (P k) (choose c (Some e.1) (lookup by_bytes k l)) → IfGiven (P k) (lookup by_bytes k l)
       go k Less d i = i
       go k Greater d i = i
       go k Equal d i = rw (by_bytes.same k e.0 d, lookup-under by_bytes e.0 l r.0) tt

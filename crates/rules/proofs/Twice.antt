@@ -1,6 +1,6 @@
 -- Folding a record twice is folding it once, and so for a layer.
+use Rattle.std.specs.Prelude.{None, Option, Some}
 use mathlib.Core.Path.{◌≡◌, refl, sym as inverse, ◌∙◌, ap}
-use mathlib.Core.Option.{Option, none, some}
 use mathlib.Core.Bool.{Bool, true, false}
 use Rattle.wire.specs.Orders.{by_number, by_bytes}
 use Rattle.wire.specs.Maps.{meet, get, get-merge, map-ext}
@@ -11,26 +11,26 @@ use Rattle.rules.specs.Queue.{fold_layer}
 use Rattle.rules.proofs.Laws.{fold_same, fold-none, fold-tombstone, kind-on, kind-first, added-removed}
 
 given-twice : {A : Type 0} (o : Option A) (x : A) → given o (given o x) ≡ given o x
-given-twice none x = refl
-given-twice (some a) x = refl
+given-twice None x = refl
+given-twice (Some a) x = refl
 
 -- two steps that put values in place, twice
 places : {A B X : Type 0} (a : Option A) (r : Option B) (f : A → X) (g : B → X) (x : X)
     → meet (λ i o. f i) a (meet (λ u o. g u) r (meet (λ i o. f i) a (meet (λ u o. g u) r x))) ≡ meet (λ i o. f i) a (meet (λ u o. g u) r x)
-places none none f g x = refl
-places none (some r) f g x = refl
-places (some a) r f g x = refl
+places None None f g x = refl
+places None (Some r) f g x = refl
+places (Some a) r f g x = refl
 
 entries_twice : (a : Entries) (r : Names) (es : Entries) → add_all a (remove_all r (add_all a (remove_all r es))) ≡ add_all a (remove_all r es)
-entries_twice a r es = map-ext by_bytes _ _ (λ k. simp added-removed (places (get by_bytes k a) (get by_bytes k r) some (λ u. none) (get by_bytes k es)))
+entries_twice a r es = map-ext by_bytes _ _ (λ k. simp added-removed (places (get by_bytes k a) (get by_bytes k r) Some (λ u. None) (get by_bytes k es)))
 
 values-twice : (c : Option Changes) (vs : Attributes) → meet alter_all c (meet alter_all c vs) ≡ meet alter_all c vs
-values-twice none vs = refl
-values-twice (some c) vs = map-ext by_bytes _ _ (λ k. simp get-merge (go (get by_bytes k c) (get by_bytes k vs)))
+values-twice None vs = refl
+values-twice (Some c) vs = map-ext by_bytes _ _ (λ k. simp get-merge (go (get by_bytes k c) (get by_bytes k vs)))
   where
     go : (o : Option (Option Text)) (x : Option Text) → meet (λ i o. i) o (meet (λ i o. i) o x) ≡ meet (λ i o. i) o x
-    go none x = refl
-    go (some a) x = refl
+    go None x = refl
+    go (Some a) x = refl
 
 meta-twice : (f : Fields) (m : Meta) → on_meta f (on_meta f m) ≡ on_meta f m
 meta-twice f m = simp (given-twice, values-twice)
@@ -55,22 +55,22 @@ applied-twice d n = λ i. record { meta = meta-twice d.fields n.meta i; body = b
 
 module _ (initial : Initial) where
   again : (d : Delta) (n : Node) (b : Bool) → same_kind (changed_kind d.change) (kind_of n.body) ≡ b
-      → fold_record initial (delta d) (fold_record initial (delta d) (some n)) ≡ fold_record initial (delta d) (some n)
+      → fold_record initial (delta d) (fold_record initial (delta d) (Some n)) ≡ fold_record initial (delta d) (Some n)
   unfolding fold_record
-  again d n true e = rw e (rw (kind-on, e) (ap some (applied-twice d n)))
+  again d n true e = rw e (rw (kind-on, e) (ap Some (applied-twice d n)))
   again d n false e = rw e (rw e)
 
   pub record-twice : (r : Record) (n : Option Node) → fold_record initial r (fold_record initial r n) ≡ fold_record initial r n
   record-twice tombstone n = simp fold-tombstone
-  record-twice (delta d) none =
+  record-twice (delta d) None =
       let c = d.change in
       let first = first_node initial c in
-      rw (fold-none, fold_same initial d (applied d first) (inverse (kind-on c (first_body c) ∙ kind-first c))) (ap some (applied-twice d first))
-  record-twice (delta d) (some n) = again d n (same_kind (changed_kind d.change) (kind_of n.body)) refl
+      rw (fold-none, fold_same initial d (applied d first) (inverse (kind-on c (first_body c) ∙ kind-first c))) (ap Some (applied-twice d first))
+  record-twice (delta d) (Some n) = again d n (same_kind (changed_kind d.change) (kind_of n.body)) refl
 
   pub layer-twice : (l : Layer) (t : Base) → fold_layer initial l (fold_layer initial l t) ≡ fold_layer initial l t
   layer-twice l t = map-ext by_number _ _ (λ i. simp get-merge (go (get by_number i l) (get by_number i t)))
     where
       go : (o : Option Record) (x : Option Node) → meet (fold_record initial) o (meet (fold_record initial) o x) ≡ meet (fold_record initial) o x
-      go none x = refl
-      go (some r) x = record-twice r x
+      go None x = refl
+      go (Some r) x = record-twice r x

@@ -1,6 +1,6 @@
 -- One store of each of the six sorts: ours, but for what is wrong with it. None of them meets demand 3 on bytes.
+use Rattle.std.specs.Prelude.{None, Option, Some}
 use mathlib.Core.Path.{◌≡◌, refl, sym, ap, ◌∙◌}
-use mathlib.Core.Option.{Option, none, some}
 use mathlib.Core.List.{List, [], ◌∷◌}
 use mathlib.Core.Bool.{Bool, true, false, cond}
 use Prim.Native.Nat.{ℕ, ◌+◌}
@@ -84,7 +84,7 @@ turned_away = record { change = λ c img target. refused 2; read = λ q img. ref
 
 -- every lookup finds none
 abbrev pub none_found : Behaviour
-none_found = record { change = changed usual; read = with_reads (λ i name img. answer none) (λ i lent. asked usual (Ask.listing i lent)) }
+none_found = record { change = changed usual; read = with_reads (λ i name img. answer None) (λ i lent. asked usual (Ask.listing i lent)) }
 
 -- every call answers its image
 abbrev pub copied_through : Behaviour
@@ -160,8 +160,8 @@ later-popped id img target new t d f =
     ap (λ (x : Store). x.batches) (same_store new i f)
   where
     go : (r : Option ℕ) (s u : Store) → unless r (set_batches [] s) ≡ answer u → u ≡ set_batches [] s
-    go none s u e = cc
-    go (some n) s u e = absurd (let z : ◌≡◌ {A = ℕ} 0 1 = cc in omega arith)
+    go None s u e = cc
+    go (Some n) s u e = absurd (let z : ◌≡◌ {A = ℕ} 0 1 = cc in omega arith)
 
 -- ---- none meets demand 3
 

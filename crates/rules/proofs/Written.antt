@@ -1,6 +1,6 @@
 -- What a changing call answers, where it is not refused: the image of the new store, which the target has room for.
+use Rattle.std.specs.Prelude.{None, Option, Some}
 use mathlib.Core.Path.{◌≡◌, refl, sym, ap, ◌∙◌}
-use mathlib.Core.Option.{Option, none, some}
 use mathlib.Core.List.{List, []}
 use mathlib.Core.Bool.{Bool, true, false, cond, ◌&&◌}
 use Prim.Native.Nat.{ℕ, ◌≤◌}
@@ -97,8 +97,8 @@ module _ (initial : Initial) (ok : FitsInitial initial) where
     where
       go : (r : Option ℕ) → refusal c s ≡ r → (m : Makes (change initial c) img target new) → unless r (result initial c s) ≡ answer m.store
           → read_image new ≡ got (result initial c s) []
-      go (some n) k m g = not-both g
-      go none k m g =
+      go (Some n) k m g = not-both g
+      go None k m g =
           let u : m.store ≡ result initial c s = cc in
           rw (m.image, u) (result-image initial ok c s (read_fits img s e) h k (rw u at m.room))
 

@@ -1,6 +1,5 @@
 -- The calls that read, with their refusals.
-use Rattle.std.proofs.Math.Option.{Option, none, some}
-use Rattle.std.specs.Prelude.{List, [], ◌∷◌, Bool, false, not, ◌&&◌, ℕ, leb, ltb, length}
+use Rattle.std.specs.Prelude.{List, [], ◌∷◌, Bool, false, not, ◌&&◌, ℕ, leb, ltb, length, None, Option, Some}
 use Rattle.wire.specs.Orders.{by_bytes}
 use Rattle.wire.specs.Maps.{Map}
 use Rattle.image.specs.Meaning.{Text, Kind, Store}
@@ -40,8 +39,8 @@ Reply (listing i lent) = Option (List (Text × ℕ))
 Reply (names i lent) = Option (List (Text × ℕ))
 
 abbrev pub rows_of : {A : Type 0} → Option (Map by_bytes A) → Option (List (Text × A))
-rows_of none = none
-rows_of (some m) = some m.rows
+rows_of None = None
+rows_of (Some m) = Some m.rows
 
 -- "Attribute names fill rows likewise, inode 0."
 abbrev pub name_rows : {A : Type 0} → List (Text × A) → List (Text × ℕ)
@@ -49,8 +48,8 @@ name_rows [] = []
 name_rows (e ∷ l) = (e.0, 0) ∷ name_rows l
 
 abbrev pub names_of : {A : Type 0} → Option (Map by_bytes A) → Option (List (Text × ℕ))
-names_of none = none
-names_of (some m) = some (name_rows m.rows)
+names_of None = None
+names_of (Some m) = Some (name_rows m.rows)
 
 -- "3 if the name given is empty or over 255 bytes"
 abbrev pub bad_name : Text → Bool
@@ -58,8 +57,8 @@ bad_name name = not (leb 1 (length name) && leb (length name) 255)
 
 -- "5 if there are fewer rows than entries"
 abbrev pub few_rows : {A : Type 0} → ℕ → Option (Map by_bytes A) → Bool
-few_rows lent none = false
-few_rows lent (some m) = ltb lent (length m.rows)
+few_rows lent None = false
+few_rows lent (Some m) = ltb lent (length m.rows)
 
 -- "Reads: 1, 2, then 3. Listings: as reads, last 5." 1 and 2 are about the bytes of the image.
 unfoldable pub reply : (q : Ask) → View → Answer (Reply q)

@@ -1,6 +1,5 @@
 -- The calls that change a store, with "its arguments other than image and target".
-use Rattle.std.proofs.Math.Option.{Option}
-use Rattle.std.specs.Prelude.{ℕ}
+use Rattle.std.specs.Prelude.{ℕ, Option}
 use Rattle.wire.specs.declared.time.Time.{Time}
 use Rattle.image.specs.Meaning.{Text, Fields, Record}
 

@@ -1,8 +1,7 @@
 -- The public calls that change a store, each as one definition over bytes: the image, the arguments as the code is given them, and the length
 -- of the lent target. Document 01: "Always first: 1, image over 65,536 bytes; 2, image not by the layout"; then the call's own refusals in
 -- order; "last 5: the new image is over 65,536 bytes or over the lent target."
-use Rattle.std.proofs.Math.Option.{Option, none, some}
-use Rattle.std.specs.Prelude.{List, ◌++◌, ℕ, length, drop}
+use Rattle.std.specs.Prelude.{List, ◌++◌, ℕ, length, drop, None, Option, Some}
 use Rattle.wire.specs.declared.time.Time.{Time}
 use Rattle.wire.specs.Parse.{Parsed, fault, got}
 use Rattle.wire.specs.Codec.{decode}
@@ -20,8 +19,8 @@ use Rattle.rules.specs.ReadCalls.{over_image, map_answer}
 -- ---- what is given
 
 abbrev pub if_read : {A : Type 0} → Parsed A → Option A
-if_read (fault f) = none
-if_read (got a r) = some a
+if_read (fault f) = None
+if_read (got a r) = Some a
 
 -- "Insert is given a record from its code on": none where it "breaks the layout, has bytes left over"
 abbrev pub given_record : List ℕ → Option Record

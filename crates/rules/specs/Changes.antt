@@ -1,6 +1,5 @@
 -- What a change makes of an inode's live record.
-use Rattle.std.proofs.Math.Option.{Option, none, some}
-use Rattle.std.specs.Prelude.{ℕ}
+use Rattle.std.specs.Prelude.{ℕ, None, Option, Some}
 use Rattle.wire.specs.declared.time.Time.{Time}
 use Rattle.wire.specs.Orders.{by_number, by_bytes}
 use Rattle.wire.specs.Maps.{Map, merge, empty, get, put}
@@ -12,13 +11,13 @@ abbrev pub alter : {A : Type 0} → ℕ → (Option A → Option A) → Map by_n
 alter i f m = put by_number i (f (get by_number i m)) m
 
 abbrev pub map_if : {A B : Type 0} → (A → B) → Option A → Option B
-map_if f none = none
-map_if f (some a) = some (f a)
+map_if f None = None
+map_if f (Some a) = Some (f a)
 
 -- ---- "Add entry, remove entry and set parent act on the live directory delta"
 
 abbrev pub no_fields : Fields
-no_fields = record { mode = none; owner = none; group = none; links = none; atime = none; mtime = none; ctime = none; created = none; attributes = none }
+no_fields = record { mode = None; owner = None; group = None; links = None; atime = None; mtime = None; ctime = None; created = None; attributes = None }
 
 -- "set mtime and ctime to the given time"
 abbrev pub stamp : Time → Fields → Fields
@@ -28,8 +27,8 @@ stamp t f = record {
   group = f.group;
   links = f.links;
   atime = f.atime;
-  mtime = some t;
-  ctime = some t;
+  mtime = Some t;
+  ctime = Some t;
   created = f.created;
   attributes = f.attributes;
 }
@@ -43,13 +42,13 @@ pub record DirectoryChange : Type 0 where
 
 -- "Adding takes the name out of removed, and the reverse; both set mtime and ctime to the given time."
 abbrev pub adding : Text → ℕ → Time → DirectoryChange
-adding name inode t = record { parent = λ p. p; added = put by_bytes name (some inode); removed = put by_bytes name none; fields = stamp t }
+adding name inode t = record { parent = λ p. p; added = put by_bytes name (Some inode); removed = put by_bytes name None; fields = stamp t }
 
 abbrev pub removing : Text → Time → DirectoryChange
-removing name t = record { parent = λ p. p; added = put by_bytes name none; removed = put by_bytes name (some tt); fields = stamp t }
+removing name t = record { parent = λ p. p; added = put by_bytes name None; removed = put by_bytes name (Some tt); fields = stamp t }
 
 abbrev pub setting_parent : ℕ → DirectoryChange
-setting_parent q = record { parent = λ p. some q; added = λ a. a; removed = λ r. r; fields = λ f. f }
+setting_parent q = record { parent = λ p. Some q; added = λ a. a; removed = λ r. r; fields = λ f. f }
 
 -- "making an empty one if there is no live record; on a live record of another sort they do nothing"
 module _ (D : DirectoryChange) where
@@ -60,17 +59,17 @@ module _ (D : DirectoryChange) where
   on_delta fs (special s device) = delta (record { fields = fs; change = special s device })
 
   abbrev pub on_directory : Option Record → Option Record
-  on_directory none = some (on_delta no_fields (directory none (empty by_bytes) (empty by_bytes)))
-  on_directory (some tombstone) = some tombstone
-  on_directory (some (delta d)) = some (on_delta d.fields d.change)
+  on_directory None = Some (on_delta no_fields (directory None (empty by_bytes) (empty by_bytes)))
+  on_directory (Some tombstone) = Some tombstone
+  on_directory (Some (delta d)) = Some (on_delta d.fields d.change)
 
 -- ---- "Update merges into a live delta, field by field and attribute by attribute; does nothing on a live tombstone; with no live record
 -- makes a delta of the type below, device 0, or does nothing if none exists"
 
 abbrev pub merge_changes : Option Changes → Option Changes → Option Changes
-merge_changes none old = old
-merge_changes (some new) none = some new
-merge_changes (some new) (some old) = some (merge by_bytes (λ name change o. some change) new old)
+merge_changes None old = old
+merge_changes (Some new) None = Some new
+merge_changes (Some new) (Some old) = Some (merge by_bytes (λ name change o. Some change) new old)
 
 abbrev pub merge_fields : Fields → Fields → Fields
 merge_fields new old = record {
@@ -86,15 +85,15 @@ merge_fields new old = record {
 }
 
 abbrev pub bare_change : Kind → Change
-bare_change directory = directory none (empty by_bytes) (empty by_bytes)
-bare_change file = file none
-bare_change symlink = symlink none
+bare_change directory = directory None (empty by_bytes) (empty by_bytes)
+bare_change file = file None
+bare_change symlink = symlink None
 bare_change (special s) = special s 0
 
 abbrev pub bare_delta : Fields → Kind → Record
 bare_delta new k = delta (record { fields = new; change = bare_change k })
 
 abbrev pub updated : Fields → Option Kind → Option Record → Option Record
-updated new below none = map_if (bare_delta new) below
-updated new below (some tombstone) = some tombstone
-updated new below (some (delta d)) = some (delta (record { fields = merge_fields new d.fields; change = d.change }))
+updated new below None = map_if (bare_delta new) below
+updated new below (Some tombstone) = Some tombstone
+updated new below (Some (delta d)) = Some (delta (record { fields = merge_fields new d.fields; change = d.change }))

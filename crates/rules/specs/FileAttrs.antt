@@ -1,8 +1,7 @@
 -- Document 01: "Attributes: from the bottom. Start at the base's; a tombstone clears; a delta on nothing starts from its initial values; then
 -- it sets the fields it has, whatever its kind, except created. Mode is cut to its low 12 bits. A file size or link target sets size. The
 -- type stays that of the start."
-use Rattle.std.proofs.Math.Option.{Option, none, some}
-use Rattle.std.specs.Prelude.{ℕ, length}
+use Rattle.std.specs.Prelude.{ℕ, length, None, Option, Some}
 use Rattle.wire.specs.declared.time.Time.{Time}
 use Rattle.wire.specs.Time.{epoch}
 use Rattle.image.specs.Meaning.{Text, Special, Kind, Device, Body, Node, Change, Delta, Record, directory, file, symlink, special, pipe, character, block, socket, tombstone, delta, kind_of, changed_kind}
@@ -50,8 +49,8 @@ base_size (symlink target) = length target
 base_size (special device) = 0
 
 abbrev pub base_attr : ℕ → Option Node → Option FileAttr
-base_attr i none = none
-base_attr i (some n) = some (record {
+base_attr i None = None
+base_attr i (Some n) = Some (record {
   inode = i;
   type = kind_of n.body;
   perm = base_perm n.body n.meta.perm;
@@ -79,15 +78,15 @@ change_device (symlink t) = 0
 change_device (special s device) = special_device s device
 
 abbrev pub length_if : Option Text → Option ℕ
-length_if none = none
-length_if (some t) = some (length t)
+length_if None = None
+length_if (Some t) = Some (length t)
 
 -- "A file size or link target sets size."
 abbrev pub change_size : Change → Option ℕ
-change_size (directory p added removed) = none
+change_size (directory p added removed) = None
 change_size (file n) = n
 change_size (symlink t) = length_if t
-change_size (special s device) = none
+change_size (special s device) = None
 
 abbrev pub on_attr : Delta → FileAttr → FileAttr
 on_attr d a = record {
@@ -122,9 +121,9 @@ module _ (initial : Initial) where
   }
 
   abbrev pub step_attr : ℕ → Record → Option FileAttr → Option FileAttr
-  step_attr i tombstone below = none
-  step_attr i (delta d) none = some (on_attr d (first_attr i d.change))
-  step_attr i (delta d) (some a) = some (on_attr d a)
+  step_attr i tombstone below = None
+  step_attr i (delta d) None = Some (on_attr d (first_attr i d.change))
+  step_attr i (delta d) (Some a) = Some (on_attr d a)
 
   abbrev pub attributes : ℕ → Read (Option FileAttr)
   attributes i = record { base = base_attr i; step = step_attr i }

@@ -1,8 +1,7 @@
 -- Folding one record into a node. Document 01: "Tombstone: node gone. Delta on nothing: a node of initial values (parent 1, empty target),
 -- then applied. Delta of the node's kind: applied, entries sorted, no empty attribute map; created time is dropped, device kept. Other
 -- kind: nothing."
-use Rattle.std.proofs.Math.Option.{Option, none, some}
-use Rattle.std.specs.Prelude.{[], Bool, cond, ℕ, ◌%◌, eqb}
+use Rattle.std.specs.Prelude.{[], Bool, cond, ℕ, ◌%◌, eqb, None, Option, Some}
 use Rattle.wire.specs.Time.{epoch}
 use Rattle.wire.specs.Orders.{by_bytes}
 use Rattle.wire.specs.Maps.{meet, merge, empty}
@@ -11,20 +10,20 @@ use Rattle.rules.specs.Initial.{Initial}
 
 -- a new value, if there is one: a delta "sets the fields it has"
 abbrev pub given : {A : Type 0} → Option A → A → A
-given none a = a
-given (some x) a = x
+given None a = a
+given (Some x) a = x
 
 -- "Mode is cut to its low 12 bits"
 abbrev pub cut : Option ℕ → Option ℕ
-cut none = none
-cut (some mode) = some (mode % 4096)
+cut None = None
+cut (Some mode) = Some (mode % 4096)
 
 -- a directory delta "removes then adds"
 abbrev pub add_all : Entries → Entries → Entries
-add_all added es = merge by_bytes (λ name inode old. some inode) added es
+add_all added es = merge by_bytes (λ name inode old. Some inode) added es
 
 abbrev pub remove_all : Names → Entries → Entries
-remove_all removed es = merge by_bytes (λ name u old. none) removed es
+remove_all removed es = merge by_bytes (λ name u old. None) removed es
 
 -- attribute changes: set, or removed
 abbrev pub alter_all : Changes → Attributes → Attributes
@@ -98,6 +97,6 @@ module _ (initial : Initial) where
   first_node c = record { meta = first_meta (changed_kind c); body = first_body c }
 
   unfoldable pub fold_record : Record → Option Node → Option Node
-  fold_record tombstone n = none
-  fold_record (delta d) none = some (applied d (first_node d.change))
-  fold_record (delta d) (some n) = some (cond (same_kind (changed_kind d.change) (kind_of n.body)) (applied d n) n)
+  fold_record tombstone n = None
+  fold_record (delta d) None = Some (applied d (first_node d.change))
+  fold_record (delta d) (Some n) = Some (cond (same_kind (changed_kind d.change) (kind_of n.body)) (applied d n) n)

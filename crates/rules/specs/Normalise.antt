@@ -1,8 +1,7 @@
 -- Document 01: "Normalise takes a layer's position (live = number of batches). Each directory delta there is held against the layers below:
 -- not existing or not a directory, removed is emptied; else it drops added names that lead to the same inode below and removed names
 -- that lead to none."
-use Rattle.std.proofs.Math.Option.{Option, none, some}
-use Rattle.std.specs.Prelude.{List, [], ◌∷◌, ◌++◌, Bool, false, not, ℕ, zero, suc, eqb}
+use Rattle.std.specs.Prelude.{List, [], ◌∷◌, ◌++◌, Bool, false, not, ℕ, zero, suc, eqb, None, Option, Some}
 use Rattle.wire.specs.Orders.{by_number, by_bytes}
 use Rattle.wire.specs.Maps.{merge, empty, get, keep}
 use Rattle.image.specs.Meaning.{Text, Kind, Entries, Names, Base, Change, Record, Layer, Batch, directory, file, symlink, special, tombstone, delta}
@@ -10,8 +9,8 @@ use Rattle.rules.specs.Stacks.{stack}
 use Rattle.rules.specs.Reads.{look, type, child, is_there}
 
 abbrev pub leads_to : Option ℕ → ℕ → Bool
-leads_to none inode = false
-leads_to (some below) inode = eqb below inode
+leads_to None inode = false
+leads_to (Some below) inode = eqb below inode
 
 -- `below` is what a name leads to in the layers below
 module _ (below : Text → Option ℕ) where
@@ -22,11 +21,11 @@ module _ (below : Text → Option ℕ) where
   less_removed removed = keep by_bytes (λ name u. is_there (below name)) removed
 
   abbrev pub normal_directory : Option Kind → Option ℕ → Entries → Names → Change
-  normal_directory none p added removed = directory p added (empty by_bytes)
-  normal_directory (some directory) p added removed = directory p (less_added added) (less_removed removed)
-  normal_directory (some file) p added removed = directory p added (empty by_bytes)
-  normal_directory (some symlink) p added removed = directory p added (empty by_bytes)
-  normal_directory (some (special s)) p added removed = directory p added (empty by_bytes)
+  normal_directory None p added removed = directory p added (empty by_bytes)
+  normal_directory (Some directory) p added removed = directory p (less_added added) (less_removed removed)
+  normal_directory (Some file) p added removed = directory p added (empty by_bytes)
+  normal_directory (Some symlink) p added removed = directory p added (empty by_bytes)
+  normal_directory (Some (special s)) p added removed = directory p added (empty by_bytes)
 
   abbrev pub normal_change : Option Kind → Change → Change
   normal_change k (directory p added removed) = normal_directory k p added removed
@@ -42,7 +41,7 @@ module _ (below : Text → Option ℕ) where
 unfoldable pub normal_layer : List Layer → Base → Layer → Layer
 normal_layer under base l =
     merge by_number
-    (λ i r o. some (normal_record (λ name. look (child name) (stack i under) (get by_number i base)) (look type (stack i under) (get by_number i base)) r))
+    (λ i r o. Some (normal_record (λ name. look (child name) (stack i under) (get by_number i base)) (look type (stack i under) (get by_number i base)) r))
     l (empty by_number)
 
 abbrev pub normal_batch : List Layer → Base → Batch → Batch

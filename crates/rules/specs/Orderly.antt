@@ -1,6 +1,5 @@
 -- The stores that demand 3 speaks of, and the condition in brackets of each call.
-use Rattle.std.specs.Prelude.{◌≡◌, List, [], ◌∷◌, ℕ}
-use Rattle.std.proofs.Math.Option.{Option, none, some, IsSome}
+use Rattle.std.specs.Prelude.{◌≡◌, List, [], ◌∷◌, ℕ, IsSome, None, Option, Some}
 use Rattle.wire.specs.Orders.{by_number, by_bytes}
 use Rattle.wire.specs.Maps.{get}
 use Rattle.image.specs.Meaning.{Text, Kind, Entries, Names, Node, Base, Fields, Change, Record, Layer, Store, directory, file, symlink, special, tombstone, delta, changed_kind}
@@ -22,8 +21,8 @@ Complete (special s device) = Unit {0}
 
 -- On something, a delta is of its kind: fold does nothing with a delta of another kind, where the reads show it ("Other kind: nothing").
 abbrev pub Suits : Change → Option Kind → Type 0
-Suits c none = Complete c
-Suits c (some k) = changed_kind c ≡ k
+Suits c None = Complete c
+Suits c (Some k) = changed_kind c ≡ k
 
 -- A name isn't both added and removed: the child lookup asks removed first, a listing and fold let added win (P6).
 abbrev pub Disjoint : Entries → Names → Type 0
@@ -31,7 +30,7 @@ Disjoint added removed = (name : Text) → IsSome (get by_bytes name added) → 
 
 -- A symlink's delta sets no mode: it would be shown, and 777 after a fold (P7). "[no mode on a symlink]"; document 02, T-08, widens this.
 abbrev pub LinkMode : Option ℕ → Type 0
-LinkMode mode = mode ≡ none
+LinkMode mode = mode ≡ None
 
 abbrev pub Tidy : Change → Fields → Type 0
 Tidy (directory p added removed) f = Disjoint added removed
@@ -62,28 +61,28 @@ type_at s i = look type (stack i (layers s)) (get by_number i s.base)
 
 -- "[no mode on a symlink]"
 abbrev pub ModeFor : Fields → Option Kind → Type 0
-ModeFor new none = Unit {0}
-ModeFor new (some directory) = Unit {0}
-ModeFor new (some file) = Unit {0}
-ModeFor new (some symlink) = LinkMode new.mode
-ModeFor new (some (special s)) = Unit {0}
+ModeFor new None = Unit {0}
+ModeFor new (Some directory) = Unit {0}
+ModeFor new (Some file) = Unit {0}
+ModeFor new (Some symlink) = LinkMode new.mode
+ModeFor new (Some (special s)) = Unit {0}
 
 -- "[inode doesn't exist, has no live record; the orderly rules hold for it]", with nothing beneath
 pub record Insertable (i : ℕ) (r : Record) (s : Store) : Type 0 where
-  pub missing : type_at s i ≡ none
-  pub not_live : get by_number i s.live ≡ none
-  pub orderly : Right r none
+  pub missing : type_at s i ≡ None
+  pub not_live : get by_number i s.live ≡ None
+  pub orderly : Right r None
 
 abbrev pub Condition : Initial → Call → Store → Type 0
-Condition initial (Call.insert i none) s = Unit {0}
-Condition initial (Call.insert i (some r)) s = Insertable i r s
+Condition initial (Call.insert i None) s = Unit {0}
+Condition initial (Call.insert i (Some r)) s = Insertable i r s
 Condition initial (Call.tombstone i) s = Unit {0}
 -- "[inode is a directory]"
-Condition initial (Call.add i name inode t) s = type_at s i ≡ some directory
-Condition initial (Call.remove i name t) s = type_at s i ≡ some directory
-Condition initial (Call.set_parent i p) s = type_at s i ≡ some directory
-Condition initial (Call.update i none) s = Unit {0}
-Condition initial (Call.update i (some new)) s = ModeFor new (type_at s i)
+Condition initial (Call.add i name inode t) s = type_at s i ≡ Some directory
+Condition initial (Call.remove i name t) s = type_at s i ≡ Some directory
+Condition initial (Call.set_parent i p) s = type_at s i ≡ Some directory
+Condition initial (Call.update i None) s = Unit {0}
+Condition initial (Call.update i (Some new)) s = ModeFor new (type_at s i)
 Condition initial (Call.normalise p) s = Unit {0}
 Condition initial (Call.freeze limits t) s = Unit {0}
 Condition initial Call.fold s = Unit {0}

@@ -1,6 +1,5 @@
 -- What a call that changes a store gives: its refusal, or a new store.
-use Rattle.std.proofs.Math.Option.{none, some}
-use Rattle.std.specs.Prelude.{[], Bool, cond}
+use Rattle.std.specs.Prelude.{[], Bool, cond, None, Some}
 use Rattle.image.specs.Meaning.{Store, tombstone}
 use Rattle.rules.specs.Initial.{Initial}
 use Rattle.rules.specs.Answers.{Answer, refused, answer, unless}
@@ -14,14 +13,14 @@ module _ (initial : Initial) where
   -- The new store, where the call isn't refused.
   -- "Insert replaces the live record. Tombstone replaces it too."
   unfoldable pub result : Call → Store → Store
-  result (Call.insert i none) s = s
-  result (Call.insert i (some r)) s = on_live i (λ o. some r) s
-  result (Call.tombstone i) s = on_live i (λ o. some tombstone) s
+  result (Call.insert i None) s = s
+  result (Call.insert i (Some r)) s = on_live i (λ o. Some r) s
+  result (Call.tombstone i) s = on_live i (λ o. Some tombstone) s
   result (Call.add i name inode t) s = on_live i (on_directory (adding name inode t)) s
   result (Call.remove i name t) s = on_live i (on_directory (removing name t)) s
   result (Call.set_parent i p) s = on_live i (on_directory (setting_parent p)) s
-  result (Call.update i none) s = s
-  result (Call.update i (some new)) s = on_live i (updated new (type_below s i)) s
+  result (Call.update i None) s = s
+  result (Call.update i (Some new)) s = on_live i (updated new (type_below s i)) s
   result (Call.normalise p) s = set_batches (normal_batches [] s.base s.batches p) (set_live (normal_live [] s.base s.batches p s.live) s)
   result (Call.freeze limits t) s = frozen t s
   result Call.fold s = set_base (fold_front initial s.batches s.base) s

@@ -1,8 +1,7 @@
 -- The names that a placed stack shows, with their starts. Document 01: "The start is in the highest layer that adds the name, else in the
 -- base. Attribute names fill rows likewise, by the highest layer that sets the name."
 -- Each read here is that of Reads by the same rule, with starts beside what stands under the names.
-use Rattle.std.proofs.Math.Option.{Option, none, some}
-use Rattle.std.specs.Prelude.{List, [], ◌∷◌, ℕ}
+use Rattle.std.specs.Prelude.{List, [], ◌∷◌, ℕ, None, Option, Some}
 use Rattle.wire.specs.Orders.{by_bytes}
 use Rattle.wire.specs.Maps.{meet, merge, empty}
 use Rattle.image.specs.Meaning.{Text, Body, Meta, Node, Changes, Fields, Change, Record, directory, file, symlink, special, tombstone, delta}
@@ -29,14 +28,14 @@ body_starts p m (special device) = empty by_bytes
 
 abbrev pub change_starts : ℕ → Fields → Change → Started ℕ → Started ℕ
 change_starts p f (directory parent added removed) es =
-    merge by_bytes (λ name new old. some new) (starts inode (added_at p f parent) added) (merge by_bytes (λ name u old. none) removed es)
+    merge by_bytes (λ name new old. Some new) (starts inode (added_at p f parent) added) (merge by_bytes (λ name u old. None) removed es)
 change_starts p f (file n) es = es
 change_starts p f (symlink t) es = es
 change_starts p f (special s device) es = es
 
 abbrev pub base_starts : Option (Placed Node) → Started ℕ
-base_starts none = empty by_bytes
-base_starts (some n) = body_starts n.place n.held.meta n.held.body
+base_starts None = empty by_bytes
+base_starts (Some n) = body_starts n.place n.held.meta n.held.body
 
 abbrev pub record_starts : ℕ → Record → Started ℕ → Started ℕ
 record_starts p tombstone es = empty by_bytes
@@ -54,8 +53,8 @@ abbrev pub alter_starts : ℕ → Fields → Changes → Started Text → Starte
 alter_starts p f cs vs = merge by_bytes (λ name c old. set_start c) (starts (maybe value) (changes_at p f cs) cs) vs
 
 abbrev pub base_value_starts : Option (Placed Node) → Started Text
-base_value_starts none = empty by_bytes
-base_value_starts (some n) = starts value (attributes_at n.place n.held.meta) n.held.meta.attributes
+base_value_starts None = empty by_bytes
+base_value_starts (Some n) = starts value (attributes_at n.place n.held.meta) n.held.meta.attributes
 
 abbrev pub record_value_starts : ℕ → Record → Started Text → Started Text
 record_value_starts p tombstone vs = empty by_bytes

@@ -1,6 +1,5 @@
 -- The stack of an inode in an image, each node and record with its place. Whatever the bytes are, it is defined.
-use Rattle.std.proofs.Math.Option.{Option, none, some}
-use Rattle.std.specs.Prelude.{List, [], ◌∷◌, ◌++◌, map, ℕ, ◌-◌, length, drop}
+use Rattle.std.specs.Prelude.{List, [], ◌∷◌, ◌++◌, map, ℕ, ◌-◌, length, drop, None, Option, Some}
 use Rattle.wire.specs.declared.cursor.Cursor.{Cursor}
 use Rattle.wire.specs.declared.cursor.Cursor.TheVariants.{At, Stop}
 use Rattle.wire.specs.Parse.{Parsed, fault, got}
@@ -41,16 +40,16 @@ record_places img i = queue_places img i (batches_at img) ++ list_if (place_in b
 -- ---- what they hold
 
 abbrev pub read_at : {A : Type 0} → Codec A → List ℕ → ℕ → Option (Placed A)
-read_at c img p = if_read (c.read (drop p img)) (λ a r. some (record { place = p; held = a }))
+read_at c img p = if_read (c.read (drop p img)) (λ a r. Some (record { place = p; held = a }))
 
 abbrev pub node_at : List ℕ → Option ℕ → Option (Placed Node)
-node_at img none = none
-node_at img (some p) = read_at node img p
+node_at img None = None
+node_at img (Some p) = read_at node img p
 
 -- a record over a stack, if there is one
 abbrev pub on_top : Option (Placed Record) → List (Placed Record) → List (Placed Record)
-on_top none rs = rs
-on_top (some r) rs = r ∷ rs
+on_top None rs = rs
+on_top (Some r) rs = r ∷ rs
 
 -- the records at places, front first, over those below them
 unfoldable pub records_on : List ℕ → List ℕ → List (Placed Record) → List (Placed Record)

@@ -1,6 +1,5 @@
 -- The parts of a store changed, and the queue of batches: freeze, fold, pop, note, request, snapshot.
-use Rattle.std.proofs.Math.Option.{Option}
-use Rattle.std.specs.Prelude.{List, [], ◌∷◌, ◌++◌, Bool, true, false, ◌||◌, not, ℕ, zero, suc, ◌+◌, eqb}
+use Rattle.std.specs.Prelude.{List, [], ◌∷◌, ◌++◌, Bool, true, false, ◌||◌, not, ℕ, zero, suc, ◌+◌, eqb, Option}
 use Rattle.wire.specs.declared.time.Time.{Time}
 use Rattle.wire.specs.Orders.{by_number}
 use Rattle.wire.specs.Maps.{merge, empty, get, keep}

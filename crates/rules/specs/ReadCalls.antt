@@ -1,8 +1,7 @@
 -- The public calls that read, each as one definition over bytes: what the contracts of the code promise. Document 01: "Always first: 1, image
 -- over 65,536 bytes; 2, image not by the layout." "Reads: 1, 2, then 3 if the name given is empty or over 255 bytes." "Listings: as reads,
 -- last 5 if there are fewer rows than entries."
-use Rattle.std.proofs.Math.Option.{Option, none, some}
-use Rattle.std.specs.Prelude.{List, [], ◌++◌, map, Bool, cond, ℕ, ltb, length, drop}
+use Rattle.std.specs.Prelude.{List, [], ◌++◌, map, Bool, cond, ℕ, ltb, length, drop, None, Option, Some}
 use Rattle.wire.specs.Parse.{Parsed, fault, got}
 use Rattle.wire.specs.Reading.{part}
 use Rattle.image.specs.Meaning.{Text, Kind, Store}
@@ -59,14 +58,14 @@ named img r = (part img r.start r.length, r.inode)
 -- "Rows past the last stay." "A refusal gives its number; target and rows stay."
 abbrev pub filled : {A : Type 0} → Answer (Option (List A)) → List A → List A
 filled (refused n) old = old
-filled (answer none) old = old
-filled (answer (some new)) old = new ++ drop (length new) old
+filled (answer None) old = old
+filled (answer (Some new)) old = new ++ drop (length new) old
 
 -- "empty if none or refused"
 abbrev pub text_of : Answer (Option Text) → Text
 text_of (refused n) = []
-text_of (answer none) = []
-text_of (answer (some t)) = t
+text_of (answer None) = []
+text_of (answer (Some t)) = t
 
 -- ---- the calls
 

@@ -1,7 +1,6 @@
 -- Document 01, "Refusing, operation by operation": the refusals of a change in order. 1 and 2, about the image, stand before all these,
 -- and 5, about the new image, after them.
-use Rattle.std.proofs.Math.Option.{Option, none, some}
-use Rattle.std.specs.Prelude.{List, [], ◌∷◌, Bool, true, false, ◌||◌, not, ℕ, ◌+◌, eqb, leb, ltb, length}
+use Rattle.std.specs.Prelude.{List, [], ◌∷◌, Bool, true, false, ◌||◌, not, ℕ, ◌+◌, eqb, leb, ltb, length, None, Option, Some}
 use Rattle.wire.specs.declared.time.Time.{Time}
 use Rattle.image.specs.Meaning.{Record, Batch, Store, tombstone, delta}
 use Rattle.rules.specs.Answers.{first_of}
@@ -14,13 +13,13 @@ bad_time t = leb 1000000000 t.nanos
 
 -- "4 if the delta given breaks the layout, has bytes left over, or (insert) is a tombstone"
 abbrev pub no_delta : Option Record → Bool
-no_delta none = true
-no_delta (some tombstone) = true
-no_delta (some (delta d)) = false
+no_delta None = true
+no_delta (Some tombstone) = true
+no_delta (Some (delta d)) = false
 
 abbrev pub is_none : {A : Type 0} → Option A → Bool
-is_none none = true
-is_none (some a) = false
+is_none None = true
+is_none (Some a) = false
 
 abbrev pub is_empty : {A : Type 0} → List A → Bool
 is_empty [] = true
@@ -51,10 +50,10 @@ last_id = 18446744073709551615
 
 abbrev pub refusal : Call → Store → Option ℕ
 refusal (Call.insert i r) s = first_of ((4, no_delta r) ∷ [])
-refusal (Call.tombstone i) s = none
+refusal (Call.tombstone i) s = None
 refusal (Call.add i name inode t) s = first_of ((3, bad_name name) ∷ (4, bad_time t) ∷ [])
 refusal (Call.remove i name t) s = first_of ((3, bad_name name) ∷ (4, bad_time t) ∷ [])
-refusal (Call.set_parent i p) s = none
+refusal (Call.set_parent i p) s = None
 refusal (Call.update i new) s = first_of ((4, is_none new) ∷ [])
 refusal (Call.normalise p) s = first_of ((11, ltb (length s.batches) p) ∷ [])
 refusal (Call.freeze limits t) s = first_of ((4, bad_time t) ∷ (6, is_full limits s.batches) ∷ (7, is_empty s.live.rows) ∷ (10, eqb s.next last_id) ∷ [])

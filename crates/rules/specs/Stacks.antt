@@ -1,15 +1,14 @@
 -- Document 01: "An inode's stack is its base node, its record in each batch (front first), its live record; any may be absent."
 -- Here the records of a stack stand topmost first.
-use Rattle.std.proofs.Math.Option.{Option, none, some}
-use Rattle.std.specs.Prelude.{List, [], ◌∷◌, ◌++◌, ℕ}
+use Rattle.std.specs.Prelude.{List, [], ◌∷◌, ◌++◌, ℕ, None, Option, Some}
 use Rattle.wire.specs.Orders.{by_number}
 use Rattle.wire.specs.Maps.{get, empty}
 use Rattle.image.specs.Meaning.{Base, Record, Layer, Batch, Store}
 
 -- a record over a stack, if there is one
 abbrev pub over? : Option Record → List Record → List Record
-over? none rs = rs
-over? (some r) rs = r ∷ rs
+over? None rs = rs
+over? (Some r) rs = r ∷ rs
 
 -- the records that an inode has in layers, front first, over those below them
 unfoldable pub stack_on : ℕ → List Layer → List Record → List Record

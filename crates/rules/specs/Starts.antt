@@ -1,9 +1,8 @@
 -- Where names stand in the image. Document 01: "A listing fills a lent row of entries: start of the name in the image, length, inode."
 -- A node or record is placed where its kind or code is, after the inode; where its lists and their names stand follows from how much is
 -- written before them.
-use Rattle.std.proofs.Math.Option.{Option}
 use mathlib.Core.List.{List, [], ◌∷◌, ◌++◌}
-use Rattle.std.specs.Prelude.{ℕ, ◌+◌, ◌-◌, length}
+use Rattle.std.specs.Prelude.{ℕ, ◌+◌, ◌-◌, length, Option}
 use Rattle.wire.specs.Number.{number_bytes}
 use Rattle.wire.specs.Codec.{Codec}
 use Rattle.wire.specs.Orders.{by_bytes}

@@ -1,7 +1,6 @@
 -- Document 01's plain table: "Its table holds nodes by inode, as a base does; it is fed the calls alone: which call, its arguments other
 -- than image and target, and whether it was refused."
-use Rattle.std.proofs.Math.Option.{Option, none, some}
-use Rattle.std.specs.Prelude.{List, [], ◌∷◌, Bool, true, false, ℕ}
+use Rattle.std.specs.Prelude.{List, [], ◌∷◌, Bool, true, false, ℕ, None, Option, Some}
 use Rattle.wire.specs.declared.time.Time.{Time}
 use Rattle.wire.specs.Orders.{by_bytes}
 use Rattle.wire.specs.Maps.{put}
@@ -60,14 +59,14 @@ module _ (initial : Initial) where
 
   -- "Insert: the node fold makes of the delta on nothing. Tombstone: node gone. All others: nothing."
   unfoldable pub effect : Call → Table → Table
-  effect (Call.insert i none) t = t
-  effect (Call.insert i (some r)) t = alter i (λ n. fold_record initial r none) t
-  effect (Call.tombstone i) t = alter i (λ n. none) t
-  effect (Call.add i name inode time) t = alter i (map_if (change_node (naming name (some inode) time))) t
-  effect (Call.remove i name time) t = alter i (map_if (change_node (naming name none time))) t
+  effect (Call.insert i None) t = t
+  effect (Call.insert i (Some r)) t = alter i (λ n. fold_record initial r None) t
+  effect (Call.tombstone i) t = alter i (λ n. None) t
+  effect (Call.add i name inode time) t = alter i (map_if (change_node (naming name (Some inode) time))) t
+  effect (Call.remove i name time) t = alter i (map_if (change_node (naming name None time))) t
   effect (Call.set_parent i p) t = alter i (map_if (change_node (parenting p))) t
-  effect (Call.update i none) t = t
-  effect (Call.update i (some new)) t = alter i (map_if (update_node new)) t
+  effect (Call.update i None) t = t
+  effect (Call.update i (Some new)) t = alter i (map_if (update_node new)) t
   effect (Call.normalise p) t = t
   effect (Call.freeze limits time) t = t
   effect Call.fold t = t

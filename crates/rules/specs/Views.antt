@@ -1,6 +1,5 @@
 -- All that the reads show of an inode.
-use Rattle.std.proofs.Math.Option.{Option, none, some}
-use Rattle.std.specs.Prelude.{List, cond, ℕ, eqb}
+use Rattle.std.specs.Prelude.{List, cond, ℕ, eqb, None, Option, Some}
 use Rattle.wire.specs.Orders.{by_number}
 use Rattle.wire.specs.Maps.{get}
 use Rattle.image.specs.Meaning.{Text, Kind, Entries, Attributes, Node, Record, Store, directory, file, symlink, special}
@@ -11,23 +10,23 @@ use Rattle.rules.specs.FileAttrs.{FileAttr, attributes}
 
 -- "Listing: none unless the attributes' type is directory."
 abbrev pub if_directory : Kind → Entries → Option Entries
-if_directory directory es = some es
-if_directory file es = none
-if_directory symlink es = none
-if_directory (special s) es = none
+if_directory directory es = Some es
+if_directory file es = None
+if_directory symlink es = None
+if_directory (special s) es = None
 
 abbrev pub listed : Option FileAttr → Entries → Option Entries
-listed none es = none
-listed (some a) es = if_directory a.type es
+listed None es = None
+listed (Some a) es = if_directory a.type es
 
 -- "Parent: inode 1 always has parent 1."
 abbrev pub parent_at : ℕ → Option ℕ → Option ℕ
-parent_at i p = cond (eqb i 1) (some 1) p
+parent_at i p = cond (eqb i 1) (Some 1) p
 
 -- "Names: none without attributes, else those with a value, rising."
 abbrev pub valued : Option FileAttr → Attributes → Option Attributes
-valued none vs = none
-valued (some a) vs = some vs
+valued None vs = None
+valued (Some a) vs = Some vs
 
 pub record View : Type 0 where
   pub type : Option Kind

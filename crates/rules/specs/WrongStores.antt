@@ -1,8 +1,7 @@
 -- Document 01: "These must not verify: a store that turns each call away, one that says "none" to each lookup, one that copies its image
 -- through, one that folds the first batch in full and merely drops later ones, one with invented staged counts, and one that reports 5 or 6
 -- untried". Each sort is said of any behaviour.
-use Rattle.std.specs.Prelude.{◌≡◌, List, [], true, ℕ, ◌+◌, ◌<◌}
-use Rattle.std.proofs.Math.Option.{none}
+use Rattle.std.specs.Prelude.{◌≡◌, List, [], true, ℕ, ◌+◌, ◌<◌, None}
 use Rattle.wire.specs.declared.time.Time.{Time}
 use Rattle.wire.specs.Parse.{got}
 use Rattle.image.specs.Meaning.{Text, Store}
@@ -21,7 +20,7 @@ TurnsReadsAway B = (q : Ask) (img : List ℕ) → is_refused (B.read q img) ≡ 
 
 -- "one that says "none" to each lookup"
 abbrev pub SaysNone : Behaviour → Type 0
-SaysNone B = (i : ℕ) (name : Text) (img : List ℕ) → B.read (Ask.child i name) img ≡ answer none
+SaysNone B = (i : ℕ) (name : Text) (img : List ℕ) → B.read (Ask.child i name) img ≡ answer None
 
 -- "one that copies its image through"
 abbrev pub CopiesThrough : Behaviour → Type 0

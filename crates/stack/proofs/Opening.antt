@@ -1,8 +1,8 @@
 -- The stack that the one pass over an image finds.
 -- Assumes nothing.
+use Rattle.std.specs.Prelude.{None, Option, Some}
 use mathlib.Core.Path.{◌≡◌, sym, ap, ◌∙◌}
 use mathlib.Core.List.{List, [], ◌∷◌}
-use mathlib.Core.Option.{Option, none, some}
 use Prim.Native.Nat.{ℕ, ◌≤◌}
 use lib.ListN.{length}
 use Rattle.wire.specs.Parse.{got}
@@ -12,7 +12,6 @@ use Rattle.image.specs.Meaning.{Node, Record, Store}
 use Rattle.image.specs.NodeLayout.{node}
 use Rattle.image.specs.RecordLayout.{layer_record}
 use Rattle.image.specs.Places.{Holds}
-use Rattle.passes.specs.Held.{place_of}
 use Rattle.survey.specs.Gathering.{deltas_of}
 use Rattle.image.specs.RoundTrip.{read_image}
 use Rattle.survey.specs.Verdict.{Judges, refusal_number, verdict_of}
@@ -36,9 +35,9 @@ all_read img (p ∷ ps) [] h = absurd h
 all_read img (p ∷ ps) (a ∷ l) h = ((a, h.0.0, h.0.1), all_read img ps l h.1)
 
 node-read : (img : List ℕ) (p : Option ℕ) (n : Option Node) → Holds img node.read p n → NodeRead img p
-node-read img none n h = tt
-node-read img (some p) none h = absurd h
-node-read img (some p) (some n) h = (n, h.0, h.1)
+node-read img None n h = tt
+node-read img (Some p) None h = absurd h
+node-read img (Some p) (Some n) h = (n, h.0, h.1)
 
 -- An image that may be used has a stack for each inode.
 fine-stack : {img : List ℕ} {i : ℕ} {r : ImageRead} → Judges img i r → r.verdict ≡ D.Fine → StackOf img i r.survey.stack
@@ -48,7 +47,7 @@ fine-stack {img} {i} {r} j e =
     let q = survey-end w.surveys v.1 in
     let h = survey-holds w.surveys v.1 in
     record {
-      stacked = record { node = node-read img (place_of r.survey.stack.base) (get by_number i v.0.base) h.node_held; records = all_read img (deltas_of r.survey.stack) (records_of i v.0) h.records_held; few = w.few; wide = w.wide };
+      stacked = record { node = node-read img r.survey.stack.base (get by_number i v.0.base) h.node_held; records = all_read img (deltas_of r.survey.stack) (records_of i v.0) h.records_held; few = w.few; wide = w.wide };
       node_is = survey-node w.surveys q.1;
       records_are = survey-records w.surveys q.1;
     }

@@ -1,8 +1,9 @@
 -- What every walk over a stack needs: each of its records is read, and stands on those below it.
 -- Assumes nothing.
+use Rattle.nodes.specs.declared.node.Node.{Node}
+use Rattle.std.specs.Prelude.{None, Option, Some}
 use mathlib.Core.Path.{◌≡◌, refl, sym, ap, ◌∙◌}
 use mathlib.Core.List.{List, [], ◌∷◌}
-use mathlib.Core.Option.{Option, none, some}
 use Prim.Native.Nat.{ℕ, zero, suc, ◌+◌, ◌-◌, ◌≤◌, ◌<◌}
 use native.Mathlib.Numerals.{add-one}
 use native.Mathlib.Omega.{arith}
@@ -14,9 +15,7 @@ use Rattle.wire.specs.Parse.{got, never-got}
 use Rattle.image.specs.Meaning.{Record}
 use Rattle.image.specs.RecordLayout.{layer_record}
 use Rattle.survey.specs.declared.batch.InodeLayerStack.{InodeLayerStack}
-use Rattle.passes.specs.declared.inode.Place.TheVariants as P
 use Rattle.survey.specs.Gathering.{deltas_of}
-use Rattle.passes.specs.Held.{place_of}
 use Rattle.rules.specs.Reads.{Read, look}
 use Rattle.rules.specs.PlacedStacks.{records_on, node_at, unplaced_node}
 use Rattle.rules.proofs.PlacedStack.{records-snoc}
@@ -24,8 +23,6 @@ use Rattle.nodes.specs.declared.node.Node as N
 use Rattle.deltas.specs.declared.delta.EntryDelta.{EntryDelta}
 use Rattle.nodes.specs.Nodes.{ReadsNode}
 use Rattle.deltas.specs.Deltas.{entry_meant, ReadsEntry}
-use Rattle.stack.specs.declared.stack.OptionNode.{OptionNode}
-use Rattle.stack.specs.declared.stack.OptionNode.TheVariants as O
 use Rattle.stack.specs.Stacks.{AllRead, Stacked, records_under, shown_under, shown, RecordIs, NodeIs, BaseIs, node_meant_if}
 
 -- ---- what is read at a place
@@ -60,7 +57,7 @@ module _ {img : List ℕ} {s : InodeLayerStack} (h : Stacked img s) where
   shown-more R i l g = rw (records-more i l g)
 
   -- the node of the stack is read whole
-  pub base-is : {p : ℕ} {n : N.Node} {next : Cursor} → s.base ≡ P.At p → ReadsNode img (At p) n next → BaseIs img (place_of s.base) (O.Some n)
+  pub base-is : {p : ℕ} {n : N.Node} {next : Cursor} → s.base ≡ Some p → ReadsNode img (At p) n next → BaseIs img s.base (Some n)
   base-is {p} {n} {next} e g = rw e (go next g)
     where
       go : (next : Cursor) → ReadsNode img (At p) n next → NodeIs img p n
@@ -69,17 +66,17 @@ module _ {img : List ℕ} {s : InodeLayerStack} (h : Stacked img s) where
 
 -- ---- the base
 
-base-meant : (img : List ℕ) (p : Option ℕ) (o : OptionNode) → BaseIs img p o → unplaced_node (node_at img p) ≡ node_meant_if img o
-base-meant img none O.None b = refl
-base-meant img none (O.Some n) b = absurd b
-base-meant img (some p) O.None b = absurd b
-base-meant img (some p) (O.Some n) b = rw b.reads.reads.same
+base-meant : (img : List ℕ) (p : Option ℕ) (o : Option Node) → BaseIs img p o → unplaced_node (node_at img p) ≡ node_meant_if img o
+base-meant img None None b = refl
+base-meant img None (Some n) b = absurd b
+base-meant img (Some p) None b = absurd b
+base-meant img (Some p) (Some n) b = rw b.reads.reads.same
 
 -- below all records there is the base
-pub shown-base : {X : Type 0} (R : Read X) (img : List ℕ) (s : InodeLayerStack) (o : OptionNode) → BaseIs img (place_of s.base) o
+pub shown-base : {X : Type 0} (R : Read X) (img : List ℕ) (s : InodeLayerStack) (o : Option Node) → BaseIs img s.base o
     → shown_under R img s 0 ≡ R.base (node_meant_if img o)
 unfolding look records_on
-shown-base R img s o b = ap R.base (base-meant img (place_of s.base) o b)
+shown-base R img s o b = ap R.base (base-meant img s.base o b)
 
 -- ---- a walk from the top
 
@@ -110,5 +107,5 @@ module _ {X : Type 0} (R : Read X) {img : List ℕ} {s : InodeLayerStack} where
       → R.step (entry_meant img e) (shown_under R img s (left - 1)) ≡ shown_under R img s (left - 1) → Walked R img s (left - 1)
   walk-on h w l g e = record { low = omega (arith, w.low); same = walk-down h w l g ∙ e }
 
-  pub walk_end : {left : ℕ} (o : OptionNode) → Walked R img s left → left ≤ 0 → BaseIs img (place_of s.base) o → shown R img s ≡ R.base (node_meant_if img o)
+  pub walk_end : {left : ℕ} (o : Option Node) → Walked R img s left → left ≤ 0 → BaseIs img s.base o → shown R img s ≡ R.base (node_meant_if img o)
   walk_end o w l b = walk-bottom w l ∙ shown-base R img s o b

@@ -1,13 +1,12 @@
 -- The stack of an inode, as places in the image.
-use Rattle.std.specs.Prelude.{◌≡◌, List, [], ◌∷◌, ℕ, ◌≤◌, length, take, drop}
-use Rattle.std.proofs.Math.Option.{Option, none, some}
+use Rattle.attrs.specs.declared.node.FileType.{FileType}
+use Rattle.std.specs.Prelude.{◌≡◌, List, [], ◌∷◌, ℕ, ◌≤◌, length, take, drop, None, Option, Some}
 use Rattle.wire.specs.declared.cursor.Cursor.TheVariants as C
 use Rattle.wire.specs.Parse.{got}
 use Rattle.survey.specs.declared.batch.InodeLayerStack.{InodeLayerStack}
 use Rattle.image.specs.Meaning.{Kind, Node, Record}
 use Rattle.image.specs.NodeLayout.{node}
 use Rattle.image.specs.RecordLayout.{layer_record}
-use Rattle.passes.specs.Held.{place_of}
 use Rattle.survey.specs.Gathering.{deltas_of}
 use Rattle.survey.specs.Verdict.{refusal_number, verdict_of}
 use Rattle.rules.specs.Starts.{Placed}
@@ -18,11 +17,7 @@ use Rattle.deltas.specs.declared.delta.EntryDelta.{EntryDelta}
 use Rattle.nodes.specs.Nodes.{node_meant, ReadsNode}
 use Rattle.deltas.specs.Deltas.{ReadsEntry}
 use Rattle.stack.specs.declared.stack.Opened.{Opened}
-use Rattle.stack.specs.declared.stack.OptionNode.{OptionNode}
-use Rattle.stack.specs.declared.stack.OptionNode.TheVariants as O
 use Rattle.attrs.specs.Meant.{kind_meant}
-use Rattle.stack.specs.declared.file_type.OptionType.{OptionType}
-use Rattle.stack.specs.declared.file_type.OptionType.TheVariants as M
 
 -- something is read at each place
 abbrev pub AllRead : List ℕ → List ℕ → Type 0
@@ -30,12 +25,12 @@ AllRead img [] = Unit {0}
 AllRead img (p ∷ ps) = ((a : Record) × (r : List ℕ) × (layer_record.read (drop p img) ≡ got a r)) × AllRead img ps
 
 abbrev pub NodeRead : List ℕ → Option ℕ → Type 0
-NodeRead img none = Unit {0}
-NodeRead img (some p) = (a : Node) × (r : List ℕ) × (node.read (drop p img) ≡ got a r)
+NodeRead img None = Unit {0}
+NodeRead img (Some p) = (a : Node) × (r : List ℕ) × (node.read (drop p img) ≡ got a r)
 
 -- the places of a stack hold a node and records of the image
 pub record Stacked (img : List ℕ) (s : InodeLayerStack) : Type 0 where
-  pub node : NodeRead img (place_of s.base)
+  pub node : NodeRead img s.base
   pub records : AllRead img (deltas_of s)
   pub few : s.count ≤ 17
   pub wide : length s.deltas ≡ 17
@@ -49,7 +44,7 @@ abbrev pub records_in : List ℕ → InodeLayerStack → List (Placed Record)
 records_in img s = records_under img s s.count
 
 abbrev pub node_in : List ℕ → InodeLayerStack → Option (Placed Node)
-node_in img s = node_at img (place_of s.base)
+node_in img s = node_at img s.base
 
 -- what a read makes of the lowest i records and the node, and of the whole stack
 abbrev pub shown_under : {X : Type 0} → Read X → List ℕ → InodeLayerStack → ℕ → X
@@ -61,7 +56,7 @@ shown R img s = shown_under R img s s.count
 -- the stack of an inode: its node in the base, its record in each batch, its live record
 pub record StackOf (img : List ℕ) (i : ℕ) (s : InodeLayerStack) : Type 0 where
   pub stacked : Stacked img s
-  pub node_is : place_of s.base ≡ node_place img i
+  pub node_is : s.base ≡ node_place img i
   pub records_are : deltas_of s ≡ record_places img i
 
 -- "Always first: 1, 2": the refusal's number, and the stack where there is none
@@ -81,16 +76,16 @@ pub record NodeIs (img : List ℕ) (p : ℕ) (n : N.Node) : Type 0 where
   pub reads : ReadsNode img (C.At p) n (C.At end)
 
 -- the node at a place; no place, no node
-abbrev pub BaseIs : List ℕ → Option ℕ → OptionNode → Type 0
-BaseIs img none O.None = Unit {0}
-BaseIs img none (O.Some n) = ⊥
-BaseIs img (some p) O.None = ⊥
-BaseIs img (some p) (O.Some n) = NodeIs img p n
+abbrev pub BaseIs : List ℕ → Option ℕ → Option Node → Type 0
+BaseIs img None None = Unit {0}
+BaseIs img None (Some n) = ⊥
+BaseIs img (Some p) None = ⊥
+BaseIs img (Some p) (Some n) = NodeIs img p n
 
-abbrev pub node_meant_if : List ℕ → OptionNode → Option Node
-node_meant_if img O.None = none
-node_meant_if img (O.Some n) = some (node_meant img n)
+abbrev pub node_meant_if : List ℕ → Option Node → Option Node
+node_meant_if img None = None
+node_meant_if img (Some n) = Some (node_meant img n)
 
-abbrev pub type_of : OptionType → Option Kind
-type_of (M.Some t) = some (kind_meant t)
-type_of M.None = none
+abbrev pub type_of : Option FileType → Option Kind
+type_of (Some t) = Some (kind_meant t)
+type_of None = None

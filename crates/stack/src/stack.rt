@@ -1,11 +1,9 @@
 // The stack of one inode in an image that may be used.
 ghost use Rattle.std.specs.Prelude.{◌<◌, get_or};
-ghost use Rattle.passes.specs.Held.{place_of};
 ghost use Rattle.stack.specs.Stacks.{Opens, Stacked, RecordIs, BaseIs};
 
 use deltas::delta::{EntryDelta, read_entry_delta};
 use nodes::node::{Node, read_node};
-use passes::inode::Place;
 use survey::batch::InodeLayerStack;
 use survey::store::{read_image, refusal_number};
 use wire::cursor::Cursor;
@@ -31,26 +29,19 @@ pub fn open_image(img: &[u8], ino: u64) -> Opened
     }
 }
 
-// A base node, if there is one.
-#[derive(Clone, Copy)]
-pub enum OptionNode {
-    Some(Node),
-    None,
-}
-
 // The base node of a stack.
-pub fn base_node(img: &[u8], stack: InodeLayerStack) -> OptionNode
+pub fn base_node(img: &[u8], stack: InodeLayerStack) -> Option<Node>
     requires { Stacked img.now stack }
-    ensures { BaseIs img.now (place_of stack.base) result }
+    ensures { BaseIs img.now stack.base result }
 {
     let base = stack.base;
     match base {
-        Place::At(place) => {
+        Some(place) => {
             let read = read_node(img, Cursor::At(place));
             let node = read.node;
-            OptionNode::Some(node)
+            Some(node)
         }
-        Place::Nowhere => OptionNode::None,
+        None => None,
     }
 }
 

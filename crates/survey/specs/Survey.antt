@@ -1,6 +1,5 @@
 -- What the one pass over an image answers: whether it is by the layout, where its sections stand, and where one inode's records are.
-use Rattle.std.specs.Prelude.{◌≡◌, refl, List, ◌++◌, ℕ, ◌≤◌, length}
-use Rattle.std.proofs.Math.Option.{Option}
+use Rattle.std.specs.Prelude.{◌≡◌, refl, List, ◌++◌, ℕ, ◌≤◌, length, Option}
 use Rattle.wire.specs.declared.cursor.Cursor.TheVariants as C
 use Rattle.wire.specs.Codec.{Codec}
 use Rattle.wire.specs.Combinators.{◌then◌, only}
@@ -12,7 +11,6 @@ use Rattle.image.specs.NodeLayout.{node, base}
 use Rattle.image.specs.RecordLayout.{layer_record, records}
 use Rattle.image.specs.StoreLayout.{batches, store}
 use Rattle.image.specs.Places.{Ends, place_in}
-use Rattle.passes.specs.Held.{place_of}
 use Rattle.survey.specs.Gathering.{list_if, deltas_of, queue_places}
 use Rattle.survey.specs.declared.store.Survey.{Survey}
 
@@ -26,7 +24,7 @@ pub record Surveys (img : List ℕ) (sought : ℕ) (r : Survey) : Type 0 where
   pub base : Ends img base.read (C.At 0) r.batches
   pub batches : Ends img batches.read r.batches r.live
   pub live : Ends img records.read r.live r.tail
-  pub node : (q : ℕ) → r.end ≡ C.At q → place_of r.stack.base ≡ place_in by_number inode node img sought (C.At 0)
+  pub node : (q : ℕ) → r.end ≡ C.At q → r.stack.base ≡ place_in by_number inode node img sought (C.At 0)
   pub deltas : (q : ℕ) → r.end ≡ C.At q
       → deltas_of r.stack ≡ queue_places img sought r.batches ++ list_if (place_in by_number inode layer_record img sought r.live)
 

@@ -1,6 +1,5 @@
 -- Document 01: "Always first: 1, image over 65,536 bytes; 2, image not by the layout."
-use Rattle.std.specs.Prelude.{◌≡◌, cond, List, ℕ, ltb, length}
-use Rattle.std.proofs.Math.Option.{Option, none, some}
+use Rattle.std.specs.Prelude.{◌≡◌, cond, List, ℕ, ltb, length, None, Option, Some}
 use Rattle.wire.specs.declared.cursor.Cursor.{Cursor}
 use Rattle.wire.specs.declared.cursor.Cursor.TheVariants as C
 use Rattle.wire.specs.Parse.{Parsed, fault, got}
@@ -13,9 +12,9 @@ use Rattle.survey.specs.declared.store.ImageRead.{ImageRead}
 
 -- the number of each verdict
 abbrev pub refusal_of : Verdict → Option ℕ
-refusal_of D.Fine = none
-refusal_of D.TooLong = some 1
-refusal_of D.Broken = some 2
+refusal_of D.Fine = None
+refusal_of D.TooLong = Some 1
+refusal_of D.Broken = Some 2
 
 -- the same, 0 for none
 abbrev pub refusal_number : Verdict → ℕ

@@ -3,18 +3,17 @@ ghost use Rattle.std.specs.Prelude.{◌≤◌, ◌≡◌, refl, length};
 ghost use Rattle.wire.specs.Number.{between};
 ghost use Rattle.wire.specs.Reading.{Reads};
 ghost use Rattle.image.specs.Places.{Ends};
-ghost use Rattle.passes.specs.Held.{place_of};
 ghost use Rattle.survey.specs.Gathering.{head_rest, Bare, Pushed, Gathers, GathersQueue};
 
 use image::field::{pass_number, pass_time};
-use passes::inode::{Held, Place, find_inode, inode_after};
+use passes::inode::{Held, find_inode, inode_after};
 use wire::cursor::{Cursor, Fault};
 use wire::number::{NumberRead, no_number, read_number};
 
 // An inode's node in the base, and its records in the layers that have one: `count` places, the front batch's first.
 #[derive(Clone, Copy)]
 pub struct InodeLayerStack {
-    pub base: Place,
+    pub base: Option<usize>,
     pub deltas: [usize; 17],
     pub count: usize,
 }
@@ -28,7 +27,7 @@ pub struct BatchesRead {
 }
 
 // The stack of an inode that no layer has a record of.
-pub fn bare_stack(base: Place) -> InodeLayerStack
+pub fn bare_stack(base: Option<usize>) -> InodeLayerStack
     ensures { Bare base result }
 {
     InodeLayerStack {
@@ -39,19 +38,19 @@ pub fn bare_stack(base: Place) -> InodeLayerStack
 }
 
 // The stack with one place more, if it is one.
-pub fn pushed(stack: InodeLayerStack, place: Place) -> InodeLayerStack
+pub fn pushed(stack: InodeLayerStack, place: Option<usize>) -> InodeLayerStack
     requires { (stack.count ≤ 16) × (length stack.deltas ≡ 17) }
-    ensures { Pushed stack (place_of place) result }
+    ensures { Pushed stack place result }
 {
     match place {
-        Place::At(p) => {
+        Some(p) => {
             let at = stack.count;
             let mut out = stack;
             out.deltas[at] = p;
             out.count = at + 1;
             out
         }
-        Place::Nowhere => stack,
+        None => stack,
     }
 }
 
@@ -84,7 +83,7 @@ fn pass_head_rest(img: &[u8], at: Cursor) -> Cursor
 }
 
 // Passes `count` batches, the first of which is at `first`, and gathers the places of the records that they hold of one inode.
-fn gather_batches(img: &[u8], first: usize, count: u64, sought: u64, base: Place) -> BatchesRead
+fn gather_batches(img: &[u8], first: usize, count: u64, sought: u64, base: Option<usize>) -> BatchesRead
     requires { (first ≤ length img.now) × (count ≤ 16) }
     ensures { Gathers img.now sought first count base result }
 {
@@ -127,7 +126,7 @@ fn gather_batches(img: &[u8], first: usize, count: u64, sought: u64, base: Place
 }
 
 // Passes the list of batches at `at`, its count first, over the node found in the base.
-pub fn gather_queue(img: &[u8], at: Cursor, sought: u64, base: Place) -> BatchesRead
+pub fn gather_queue(img: &[u8], at: Cursor, sought: u64, base: Option<usize>) -> BatchesRead
     ensures { GathersQueue img.now sought at base result }
 {
     let count = read_number(img, at, 16);

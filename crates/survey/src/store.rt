@@ -6,7 +6,7 @@ ghost use Rattle.survey.specs.Verdict.{verdict_at, Judges, refusal_number};
 
 use crate::batch::{InodeLayerStack, bare_stack, gather_queue, pushed};
 use image::field::pass_number;
-use passes::inode::{Held, Place, find_inode, inode_after};
+use passes::inode::{Held, find_inode, inode_after};
 use wire::cursor::Cursor;
 
 // Where the sections of an image stand, and the records of one inode. The base is at 0.
@@ -112,7 +112,7 @@ fn verdict_at(end: Cursor, length: usize) -> Verdict
 
 fn no_survey() -> Survey {
     Survey {
-        stack: bare_stack(Place::Nowhere),
+        stack: bare_stack(None),
         batches: Cursor::At(0),
         live: Cursor::At(0),
         tail: Cursor::At(0),

@@ -1,9 +1,9 @@
 -- What a layer says, by what stands in it.
 -- Assumes nothing.
+use Rattle.std.specs.Prelude.{None, Option, Some}
 use mathlib.Core.Path.{◌≡◌, refl, sym, ap, ◌∙◌, subst}
 use mathlib.Core.Logic.{⊎_elim}
 use mathlib.Core.List.{List}
-use mathlib.Core.Option.{Option, none, some}
 use Prim.Native.Nat.{ℕ, zero, suc, ◌+◌, ◌-◌, ◌≤◌, ◌<◌}
 use native.Mathlib.Omega.{arith}
 use lib.ListN.{get_or}
@@ -16,9 +16,6 @@ use Rattle.wire.specs.Orders.{by_bytes}
 use Rattle.wire.specs.Maps.{get, meet}
 use Rattle.wire.specs.Reading.{Answers}
 use Rattle.survey.specs.declared.batch.InodeLayerStack.{InodeLayerStack}
-use Rattle.passes.specs.declared.inode.Place.{Place}
-use Rattle.passes.specs.declared.inode.Place.TheVariants as A
-use Rattle.passes.specs.Held.{place_of}
 use Rattle.image.specs.declared.name.Under.TheVariants as U
 use Rattle.image.specs.Meaning.{Text, Body, Node, Change, Record, directory, file, symlink, special, tombstone, delta}
 use Rattle.image.specs.Under.{under}
@@ -38,8 +35,6 @@ use Rattle.deltas.specs.declared.delta.EntryDelta.TheVariants as E
 use Rattle.deltas.specs.Deltas.{change_meant, entry_meant}
 use Rattle.deltas.specs.contracts.delta.NodeDelta as change
 use Rattle.deltas.proofs.Others.{one-delta, one-kind, not_directory}
-use Rattle.stack.specs.declared.stack.OptionNode.{OptionNode}
-use Rattle.stack.specs.declared.stack.OptionNode.TheVariants as O
 use Rattle.stack.specs.Stacks.{Stacked, shown_under, shown, RecordIs, BaseIs, node_meant_if}
 use Rattle.stack.proofs.Walks.{shown-more, shown-base}
 use Rattle.lookup.specs.Search.{IsList, Finds}
@@ -50,14 +45,14 @@ use Rattle.trace.specs.declared.said.Said.TheVariants.{Nothing, NoChild, Child}
 
 -- ---- the child lookup is what a layer says, over what is below it
 
-entry-over : (o below : Option ℕ) → meet (λ inode x. some inode) o below ≡ over (entry_says o) below
-entry-over none below = refl
-entry-over (some i) below = refl
+entry-over : (o below : Option ℕ) → meet (λ inode x. Some inode) o below ≡ over (entry_says o) below
+entry-over None below = refl
+entry-over (Some i) below = refl
 
 removed-over : {A : Type 0} (removed : Option A) (o below : Option ℕ)
-    → meet (λ u x. none) removed (meet (λ inode x. some inode) o below) ≡ over (meet (λ u x. NoChild) removed (entry_says o)) below
-removed-over none o below = entry-over o below
-removed-over (some u) o below = refl
+    → meet (λ u x. None) removed (meet (λ inode x. Some inode) o below) ≡ over (meet (λ u x. NoChild) removed (entry_says o)) below
+removed-over None o below = entry-over o below
+removed-over (Some u) o below = refl
 
 change-over : (name : Text) (c : Change) (below : Option ℕ) → change_child name c below ≡ over (change_says name c) below
 change-over name (directory p added removed) below = removed-over (get by_bytes name removed) (get by_bytes name added) below
@@ -69,27 +64,27 @@ pub record-over : (name : Text) (r : Record) (below : Option ℕ) → step_child
 record-over name tombstone below = refl
 record-over name (delta d) below = change-over name d.change below
 
-entry-alone : (o : Option ℕ) → o ≡ over (entry_says o) none
-entry-alone none = refl
-entry-alone (some i) = refl
+entry-alone : (o : Option ℕ) → o ≡ over (entry_says o) None
+entry-alone None = refl
+entry-alone (Some i) = refl
 
-body-over : (name : Text) (b : Body) → body_child name b ≡ over (body_says name b) none
+body-over : (name : Text) (b : Body) → body_child name b ≡ over (body_says name b) None
 body-over name (directory p es) = entry-alone (get by_bytes name es)
 body-over name (file size) = refl
 body-over name (symlink target) = refl
 body-over name (special device) = refl
 
-pub base-over : (name : Text) (o : Option Node) → base_child name o ≡ over (base_says name o) none
-base-over name none = refl
-base-over name (some n) = body-over name n.body
+pub base-over : (name : Text) (o : Option Node) → base_child name o ≡ over (base_says name o) None
+base-over name None = refl
+base-over name (Some n) = body-over name n.body
 
 -- ---- a list of entries
 
-module _ (img : List ℕ) (list : Part) (name : Text) {place : Place} (f : Finds img U.Inode list name (place_of place)) where
-  pub list-unnamed : place ≡ A.Nowhere → SaysList img list name Nothing
+module _ (img : List ℕ) (list : Part) (name : Text) {place : Option ℕ} (f : Finds img U.Inode list name place) where
+  pub list-unnamed : place ≡ None → SaysList img list name Nothing
   list-unnamed y = rw (held_none img (under U.Inode).read (get by_bytes name (list_at img U.Inode list)) (rw y at f))
 
-  pub list-named : {p i : ℕ} {next : Cursor} → place ≡ A.At p → Answers img (number_read edge) (At p) 0 i next → SaysList img list name (Child i)
+  pub list-named : {p i : ℕ} {next : Cursor} → place ≡ Some p → Answers img (number_read edge) (At p) 0 i next → SaysList img list name (Child i)
   list-named {p} y a =
       let o = held-some img (under U.Inode).read p (get by_bytes name (list_at img U.Inode list)) (rw y at f) in
       rw (o.2, read_same o.3 a.reads)
@@ -123,13 +118,13 @@ module _ {img : List ℕ} {s : InodeLayerStack} {i : ℕ} {e : EntryDelta} (h : 
     pub removed-listed : IsList img U.Nothing d.removed
     removed-listed = (g.end, lists.1)
 
-    module _ {place : Place} (f : Finds img U.Nothing d.removed name (place_of place)) where
-      pub says-removed : {p : ℕ} → place ≡ A.At p → SaysRecord img s name i NoChild
+    module _ {place : Option ℕ} (f : Finds img U.Nothing d.removed name place) where
+      pub says-removed : {p : ℕ} → place ≡ Some p → SaysRecord img s name i NoChild
       says-removed {p} y =
           let o = held-some img (under U.Nothing).read p (get by_bytes name (list_at img U.Nothing d.removed)) (rw y at f) in
           record-says NoChild (rw (en, ed, o.2))
 
-      pub says-added : {r : Said} → place ≡ A.Nowhere → SaysList img d.added name r → SaysRecord img s name i r
+      pub says-added : {r : Said} → place ≡ None → SaysList img d.added name r → SaysRecord img s name i r
       says-added {r} y k =
           let o = held_none img (under U.Nothing).read (get by_bytes name (list_at img U.Nothing d.removed)) (rw y at f) in
           record-says r (k ∙ rw (en, ed, o))
@@ -137,30 +132,30 @@ module _ {img : List ℕ} {s : InodeLayerStack} {i : ℕ} {e : EntryDelta} (h : 
 -- ---- the base
 
 module _ (img : List ℕ) (s : InodeLayerStack) (name : Text) where
-  base-says : (r : Said) (o : OptionNode) → BaseIs img (place_of s.base) o → r ≡ base_says name (node_meant_if img o) → SaysBase img s name r
+  base-says : (r : Said) (o : Option Node) → BaseIs img s.base o → r ≡ base_says name (node_meant_if img o) → SaysBase img s name r
   base-says r o b d = record {
     itself = d ∙ sym (shown-base (says name) img s o b);
-    looked = shown-base (child name) img s o b ∙ base-over name (node_meant_if img o) ∙ ap (λ (x : Said). over x none) (sym d);
+    looked = shown-base (child name) img s o b ∙ base-over name (node_meant_if img o) ∙ ap (λ (x : Said). over x None) (sym d);
   }
 
-  pub says-no-node : BaseIs img (place_of s.base) O.None → SaysBase img s name NoChild
-  says-no-node b = base-says NoChild O.None b refl
+  pub says-no-node : BaseIs img s.base None → SaysBase img s name NoChild
+  says-no-node b = base-says NoChild None b refl
 
-  module _ (n : N.Node) (b : BaseIs img (place_of s.base) (O.Some n)) where
+  module _ (n : N.Node) (b : BaseIs img s.base (Some n)) where
     pub says-no-directory : OneOf not_directory (tag_of kind.the_type n.kind) → SaysBase img s name NoChild
     says-no-directory k =
-        base-says NoChild (O.Some n) b
+        base-says NoChild (Some n) b
         (one-kind not_directory (λ k. NoChild ≡ body_says name (body_meant img k)) tt (λ size. refl) (λ target. refl) refl (λ rdev. refl) (λ rdev. refl) refl n.kind k)
 
     pub entries-listed : {parent : ℕ} {es : Part} → n.kind ≡ K.Directory parent es → IsList img U.Inode es
-    entries-listed {parent} {es} e = go (place_of s.base) b
+    entries-listed {parent} {es} e = go s.base b
       where
-        go : (p : Option ℕ) → BaseIs img p (O.Some n) → IsList img U.Inode es
-        go none b = absurd b
-        go (some p) b = (b.end, subst (λ (k : NodeKind). EntriesListed img k b.end) e b.reads.entries)
+        go : (p : Option ℕ) → BaseIs img p (Some n) → IsList img U.Inode es
+        go None b = absurd b
+        go (Some p) b = (b.end, subst (λ (k : NodeKind). EntriesListed img k b.end) e b.reads.entries)
 
     pub says-directory : {parent : ℕ} {es : Part} {r : Said} → n.kind ≡ K.Directory parent es → SaysList img es name r → SaysBase img s name r
-    says-directory {r = r} e k = base-says r (O.Some n) b (k ∙ rw e)
+    says-directory {r = r} e k = base-says r (Some n) b (k ∙ rw e)
 
 -- ---- the layer that decides
 
@@ -200,13 +195,13 @@ module _ {img : List ℕ} {s : InodeLayerStack} {name : Text} {layer : ℕ} (w :
 
 -- the lookup's answer is what the layer that decides says
 pub decided : (img : List ℕ) (s : InodeLayerStack) (name : Text) (i : ℕ) (r : Said) → Decides img s name (i + 1) → SaysRecord img s name i r → Speaks r
-    → shown (child name) img s ≡ over r none
+    → shown (child name) img s ≡ over r None
 decided img s name i r d k t = d.looked ∙ k.looked ∙ go r t
   where
-    go : (r : Said) → Speaks r → over r (shown_under (child name) img s i) ≡ over r none
+    go : (r : Said) → Speaks r → over r (shown_under (child name) img s i) ≡ over r None
     go Nothing t = absurd t
     go NoChild t = refl
     go (Child j) t = refl
 
-pub decided-base : (img : List ℕ) (s : InodeLayerStack) (name : Text) (r : Said) → Decides img s name 0 → SaysBase img s name r → shown (child name) img s ≡ over r none
+pub decided-base : (img : List ℕ) (s : InodeLayerStack) (name : Text) (r : Said) → Decides img s name 0 → SaysBase img s name r → shown (child name) img s ≡ over r None
 decided-base img s name r d k = d.looked ∙ k.looked

@@ -1,7 +1,6 @@
 -- Document 01: "Child: from the top. Tombstone: none. Directory delta: removed name, none; else added name, its inode; else go on below. Other
 -- kind: none. Last, a base directory's entries." Here each layer by itself.
-use Rattle.std.specs.Prelude.{◌≡◌, List, ℕ, zero, suc, ◌+◌, ◌≤◌, ◌<◌}
-use Rattle.std.proofs.Math.Option.{Option, none, some}
+use Rattle.std.specs.Prelude.{◌≡◌, List, ℕ, zero, suc, ◌+◌, ◌≤◌, ◌<◌, None, Option, Some}
 use Rattle.wire.specs.Orders.{by_bytes}
 use Rattle.wire.specs.Maps.{get, meet}
 use Rattle.image.specs.Meaning.{Text, Body, Node, Change, Record, directory, file, symlink, special, tombstone, delta}
@@ -18,8 +17,8 @@ use Rattle.trace.specs.declared.said.Said.TheVariants.{Nothing, NoChild, Child}
 
 -- "added name, its inode; else go on below"
 abbrev pub entry_says : Option ℕ → Said
-entry_says none = Nothing
-entry_says (some inode) = Child inode
+entry_says None = Nothing
+entry_says (Some inode) = Child inode
 
 -- "removed name, none; else added name", "Other kind: none."
 abbrev pub change_says : Text → Change → Said
@@ -41,8 +40,8 @@ body_says name (symlink target) = NoChild
 body_says name (special device) = NoChild
 
 abbrev pub base_says : Text → Option Node → Said
-base_says name none = NoChild
-base_says name (some n) = body_says name n.body
+base_says name None = NoChild
+base_says name (Some n) = body_says name n.body
 
 -- the topmost layer by itself, whatever is below it
 abbrev pub says : Text → Read Said
@@ -51,8 +50,8 @@ says name = record { base = base_says name; step = λ r below. record_says name 
 -- what a lookup answers after a layer spoke, by the answer of the layers below
 abbrev pub over : Said → Option ℕ → Option ℕ
 over Nothing below = below
-over NoChild below = none
-over (Child i) below = some i
+over NoChild below = None
+over (Child i) below = Some i
 
 -- a layer that says something
 abbrev pub Speaks : Said → Type 0
@@ -79,7 +78,7 @@ module _ (img : List ℕ) (s : InodeLayerStack) (name : Text) where
   -- the same of the base, below which is nothing
   pub record SaysBase (r : Said) : Type 0 where
     pub itself : r ≡ says_at 0
-    pub looked : shown_under (child name) img s 0 ≡ over r none
+    pub looked : shown_under (child name) img s 0 ≡ over r None
 
   -- below the base there is nothing to ask
   abbrev pub SpeaksAt : ℕ → Type 0

@@ -10,8 +10,7 @@ use image::name::Under;
 use lookup::search::find_name;
 use nodes::node::NodeKind;
 use nodes::part::Part;
-use passes::inode::Place;
-use stack::stack::{OptionNode, base_node, record_at};
+use stack::stack::{base_node, record_at};
 use survey::batch::InodeLayerStack;
 use wire::cursor::Cursor;
 use wire::number::read_number;
@@ -31,11 +30,11 @@ fn entry_in(img: &[u8], list: Part, name: &[u8]) -> Said
 {
     let place = find_name(img, list, Under::Inode, name);
     match place {
-        Place::At(at) => {
+        Some(at) => {
             let inode = read_number(img, Cursor::At(at), 0xFFFF_FFFF_FFFF_FFFF);
             Said::Child(inode.value)
         }
-        Place::Nowhere => Said::Nothing,
+        None => Said::Nothing,
     }
 }
 
@@ -55,8 +54,8 @@ pub fn says_at(img: &[u8], stack: InodeLayerStack, i: usize, name: &[u8]) -> Sai
     let removed = directory.removed;
     let place = find_name(img, removed, Under::Nothing, name);
     match place {
-        Place::At(_) => Said::NoChild,
-        Place::Nowhere => entry_in(img, added, name),
+        Some(_) => Said::NoChild,
+        None => entry_in(img, added, name),
     }
 }
 
@@ -66,7 +65,7 @@ pub fn base_says(img: &[u8], stack: InodeLayerStack, name: &[u8]) -> Said
     ensures { SaysBase img.now stack name.now result }
 {
     let base = base_node(img, stack);
-    let OptionNode::Some(node) = base else {
+    let Some(node) = base else {
         return Said::NoChild;
     };
     let kind = node.kind;

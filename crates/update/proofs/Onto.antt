@@ -1,8 +1,10 @@
 -- Fields merged into a live delta.
 -- Assumes nothing.
+use Rattle.wire.specs.declared.time.Time.{Time}
+use Rattle.nodes.specs.declared.part.Part.{Part}
+use Rattle.std.specs.Prelude.{None, Option, Some}
 use mathlib.Core.Path.{◌≡◌, refl, sym, ap, subst, ◌∙◌}
 use mathlib.Core.List.{List, [], ◌++◌, append_assoc}
-use mathlib.Core.Option.{Option}
 use Prim.Native.Nat.{ℕ, suc, ◌+◌}
 use native.Mathlib.Omega.{arith}
 use lib.ListN.{length}
@@ -16,16 +18,9 @@ use Rattle.image.specs.Meaning.{Changes as AttrChanges, Fields, Change, Delta, t
 use Rattle.image.specs.Fits.{FitsRecord}
 use Rattle.image.specs.KindLayout.{code, kind-small}
 use Rattle.image.specs.RecordLayout.{fields, change_part, change_part_of, layer_record}
-use Rattle.nodes.specs.Options.{word_of, time_of}
 use Rattle.nodes.specs.Listed.{list_of, ListedIf}
 use Rattle.nodes.specs.Attrs.{fields_meant, ReadsAttr}
 use Rattle.nodes.specs.declared.attr.AttrDelta.{AttrDelta}
-use Rattle.nodes.specs.declared.option.OptionU32.{OptionU32}
-use Rattle.nodes.specs.declared.option.OptionU32.TheVariants as W
-use Rattle.nodes.specs.declared.option.OptionTime.{OptionTime}
-use Rattle.nodes.specs.declared.option.OptionTime.TheVariants as T
-use Rattle.nodes.specs.declared.option.OptionPart.{OptionPart}
-use Rattle.nodes.specs.declared.option.OptionPart.TheVariants as P
 use Rattle.writers.specs.Writes.{part_bit, attr_bytes, fields_with, fields-with-bytes}
 use Rattle.rules.specs.Reads.{or_else}
 use Rattle.rules.specs.Changes.{merge_fields, merge_changes}
@@ -40,19 +35,19 @@ use Rattle.meld.proofs.Melding.{changes-written}
 
 -- ---- "field by field"
 
-word-or : (a b : OptionU32) → word_of (or_word a b) ≡ or_else (word_of a) (word_of b)
-word-or (W.Some n) b = refl
-word-or W.None b = refl
+word-or : (a b : Option ℕ) → (or_word a b) ≡ or_else a b
+word-or (Some n) b = refl
+word-or None b = refl
 
-time-or : (a b : OptionTime) → time_of (or_time a b) ≡ or_else (time_of a) (time_of b)
-time-or (T.Some t) b = refl
-time-or T.None b = refl
+time-or : (a b : Option Time) → (or_time a b) ≡ or_else a b
+time-or (Some t) b = refl
+time-or None b = refl
 
-part-or : (img given : List ℕ) (a b : OptionPart) → count (merge_changes (list_of given U.Change a) (list_of img U.Change b)) ≡ part_bit (or_part a b)
-part-or img given (P.Some p) (P.Some q) = refl
-part-or img given (P.Some p) P.None = refl
-part-or img given P.None (P.Some q) = refl
-part-or img given P.None P.None = refl
+part-or : (img given : List ℕ) (a b : Option Part) → count (merge_changes (list_of given U.Change a) (list_of img U.Change b)) ≡ part_bit (or_part a b)
+part-or img given (Some p) (Some q) = refl
+part-or img given (Some p) None = refl
+part-or img given None (Some q) = refl
+part-or img given None None = refl
 
 module _ (img given : List ℕ) (a b : AttrDelta) where
   abbrev both_changes : Option AttrChanges

@@ -1,9 +1,10 @@
 -- Update of one inode's attributes.
 -- Assumes nothing.
+use Rattle.nodes.specs.declared.part.Part.{Part}
+use Rattle.std.specs.Prelude.{None, Option, Some}
 use mathlib.Core.Path.{◌≡◌, refl, sym, ap, ◌∙◌}
 use mathlib.Core.Bool.{Bool, true, false, not}
 use mathlib.Core.List.{List, [], ◌∷◌, ◌++◌, append_assoc}
-use mathlib.Core.Option.{Option, none, some}
 use Prim.Native.Nat.{ℕ, suc}
 use lib.ListN.{length, drop}
 use lib.Dec.{eqb}
@@ -17,7 +18,6 @@ use Rattle.wire.specs.Codec.{decode}
 use Rattle.wire.specs.Combinators.{opt_write}
 use Rattle.wire.specs.Number.{number_bytes, groups}
 use Rattle.image.specs.declared.name.Under.TheVariants as U
-use Rattle.passes.specs.declared.inode.Place.TheVariants as A
 use Rattle.survey.specs.declared.batch.InodeLayerStack.{InodeLayerStack}
 use Rattle.image.specs.Meaning.{Kind, Record, Layer, Batch, Store, directory, file, symlink, special, pipe, character, block, socket, tombstone, delta, kind_number, changed_kind}
 use Rattle.image.specs.Fits.{FitsRecord}
@@ -28,16 +28,12 @@ use Rattle.image.specs.RoundTrip.{read_image, write_image}
 use Rattle.nodes.specs.Listed.{list_of, ListedIf}
 use Rattle.nodes.specs.Attrs.{fields_meant, ReadsAttr}
 use Rattle.nodes.specs.declared.attr.AttrDelta.{AttrDelta}
-use Rattle.nodes.specs.declared.option.OptionPart.{OptionPart}
-use Rattle.nodes.specs.declared.option.OptionPart.TheVariants as P
 use Rattle.attrs.specs.Meant.{kind_meant}
 use Rattle.attrs.specs.declared.node.FileType.{FileType}
 use Rattle.writers.specs.Writes.{attr_bytes, fields-bytes}
 use Rattle.writers.proofs.Writing.{list_written}
 use Rattle.stack.specs.Stacks.{StackOf, shown}
 use Rattle.stack.specs.Stacks.{type_of}
-use Rattle.stack.specs.declared.file_type.OptionType.{OptionType}
-use Rattle.stack.specs.declared.file_type.OptionType.TheVariants as M
 use Rattle.rules.specs.Initial.{usual}
 use Rattle.rules.specs.Calls.{Call}
 use Rattle.rules.specs.Reads.{type}
@@ -69,9 +65,9 @@ use Rattle.image.proofs.OneForm.{layer_record-one}
 
 -- ---- no live record
 
-only-given : (img given : List ℕ) (x : OptionPart) (end : ℕ) → ListedIf given U.Change x end → changes_anew img given x P.None ≡ opt_write changes (list_of given U.Change x)
-only-given img given (P.Some p) end h = list_written U.Change h
-only-given img given P.None end h = refl
+only-given : (img given : List ℕ) (x : Option Part) (end : ℕ) → ListedIf given U.Change x end → changes_anew img given x None ≡ opt_write changes (list_of given U.Change x)
+only-given img given (Some p) end h = list_written U.Change h
+only-given img given None end h = refl
 
 bare-bytes : (k : Kind) → bare_bytes (suc (kind_number k)) ≡ changed (bare_change k)
 unfolding empty number_bytes groups
@@ -105,7 +101,7 @@ unfolding stack_on
 stack-over i [] live rs = refl
 stack-over i (b ∷ bs) live rs = stack-over i bs live (over? (get by_number i b.records) rs)
 
-type-under : {img : List ℕ} {i : ℕ} {stk : InodeLayerStack} {s : Store} → StackOf img i stk → read_image img ≡ got s [] → get by_number i s.live ≡ none → shown type img stk ≡ type_below s i
+type-under : {img : List ℕ} {i : ℕ} {stk : InodeLayerStack} {s : Store} → StackOf img i stk → read_image img ≡ got s [] → get by_number i s.live ≡ None → shown type img stk ≡ type_below s i
 type-under {img} {i} {stk} {s} w e n =
     rw (w.records_are, w.node_is, placed-stack img i e, placed-node img i e, stack-over i s.batches s.live [], n)
 
@@ -120,7 +116,7 @@ new_of given a i s = updated (fields_meant given a) (type_below s i)
 module _ {img : List ℕ} {p : Sections} {s : Store} (w : Stands img p s) {i : ℕ} (a : AttrDelta) (given : List ℕ)
     {cut : Cut} (c : CutsRecords img p.live i cut) where
   -- another record
-  new-bytes : {n : NewLive} (r : NewRecord) (o : Option Record) (new : Record) → n ≡ replaced_of cut i r → live_of i s ≡ o → new_of given a i s o ≡ some new
+  new-bytes : {n : NewLive} (r : NewRecord) (o : Option Record) (new : Record) → n ≡ replaced_of cut i r → live_of i s ≡ o → new_of given a i s o ≡ Some new
       → record_row img given given (replaced_of cut i r).edit ≡ number_bytes i ++ layer_record.write new
       → one_image img given given p n ≡ write_image (on_live i (new_of given a i s) s)
   new-bytes r o new q e d b =
@@ -130,65 +126,65 @@ module _ {img : List ℕ} {p : Sections} {s : Store} (w : Stands img p s) {i : �
 
   module _ {n : NewLive} (at : ℕ) (r : NewRecord) (q : n ≡ replaced_of cut i r) (o : Onto img at a r)
       (end : ℕ) (g : ListedIf given U.Change a.xattrs end) where
-    record-bytes : (y : Record) → live_of i s ≡ some y → Holds img layer_record.read (some at) (some y) → Spans img at (layer_record.write y) cut.after
+    record-bytes : (y : Record) → live_of i s ≡ Some y → Holds img layer_record.read (Some at) (Some y) → Spans img at (layer_record.write y) cut.after
         → one_image img given given p n ≡ write_image (on_live i (new_of given a i s) s)
     unfolding layer_record
     record-bytes tombstone e k t =
         let z = o.stays cut.after t in
-        new-bytes N.Tombstone (some tombstone) tombstone (q ∙ ap (replaced_of cut i) z) e refl (ap (λ (x : List ℕ). number_bytes i ++ x) tombstone-bytes)
+        new-bytes N.Tombstone (Some tombstone) tombstone (q ∙ ap (replaced_of cut i) z) e refl (ap (λ (x : List ℕ). number_bytes i ++ x) tombstone-bytes)
     record-bytes (delta d) e k t =
         let f : FitsRecord (delta d) = (layer_record-one.forth (drop at img) (delta d) k.0 k.1).1 in
         let m = o.merges cut.after d f t in
-        new-bytes (N.Updated m.new) (some (delta d)) (merged_delta given a d) (q ∙ ap (replaced_of cut i) m.is) e refl
+        new-bytes (N.Updated m.new) (Some (delta d)) (merged_delta given a d) (q ∙ ap (replaced_of cut i) m.is) e refl
         (ap (λ (x : List ℕ). number_bytes i ++ x) (m.writes given end g))
 
-    held_bytes : (h : List (ℕ × Record)) → live_of i s ≡ under_first h → Holds img layer_record.read (some at) (under_first h)
-        → StandsAt by_number inode layer_record img (A.At at) h cut.after
+    held_bytes : (h : List (ℕ × Record)) → live_of i s ≡ under_first h → Holds img layer_record.read (Some at) (under_first h)
+        → StandsAt by_number inode layer_record img (Some at) h cut.after
         → one_image img given given p n ≡ write_image (on_live i (new_of given a i s) s)
     held_bytes [] e k t = absurd k
     held_bytes (x ∷ h) e k t = record-bytes x.1 e k t
 
 -- there is a live record
 pub updates-live : {img : List ℕ} {p : Sections} {stk : InodeLayerStack} {i : ℕ} {a : AttrDelta} {cut : Cut} {at : ℕ} {r : NewRecord} {n : NewLive}
-    → CutsRecords img p.live i cut → cut.place ≡ A.At at → Onto img at a r → n ≡ replaced_of cut i r → Updates img p stk i a n
+    → CutsRecords img p.live i cut → cut.place ≡ Some at → Onto img at a r → n ≡ replaced_of cut i r → Updates img p stk i a n
 updates-live {i = i} {a} {at = at} {r} c e o q = record {
   writes = λ s w k given end g.
       held_bytes w a given c at r q o end g (row_here by_number i s.live.rows) (get-here by_number i s.live)
       (rw e at (is_cut w c).holds) (rw e at (is_cut w c).stands);
 }
 
-none-live : {img : List ℕ} {p : Sections} {s : Store} {i : ℕ} {cut : Cut} → Stands img p s → CutsRecords img p.live i cut → cut.place ≡ A.Nowhere → live_of i s ≡ none
+none-live : {img : List ℕ} {p : Sections} {s : Store} {i : ℕ} {cut : Cut} → Stands img p s → CutsRecords img p.live i cut → cut.place ≡ None → live_of i s ≡ None
 none-live {img} {p} {s} {i} w c e = get-here by_number i s.live ∙ go (under_first (row_here by_number i s.live.rows)) (rw e at (is_cut w c).holds)
   where
-    go : (o : Option Record) → Holds img layer_record.read none o → o ≡ none
-    go none h = refl
-    go (some r) h = absurd h
+    go : (o : Option Record) → Holds img layer_record.read None o → o ≡ None
+    go None h = refl
+    go (Some r) h = absurd h
 
-module _ {img : List ℕ} {p : Sections} {stk : InodeLayerStack} {i : ℕ} {a : AttrDelta} {cut : Cut} {t : OptionType} where
+module _ {img : List ℕ} {p : Sections} {stk : InodeLayerStack} {i : ℕ} {a : AttrDelta} {cut : Cut} {t : Option FileType} where
   -- "with no live record makes a delta of the type below"
-  pub updates-new : {f : FileType} {code : ℕ} {u : Updated} {n : NewLive} → CutsRecords img p.live i cut → cut.place ≡ A.Nowhere
-      → type_of t ≡ shown type img stk → t ≡ M.Some f
+  pub updates-new : {f : FileType} {code : ℕ} {u : Updated} {n : NewLive} → CutsRecords img p.live i cut → cut.place ≡ None
+      → type_of t ≡ shown type img stk → t ≡ Some f
       → code ≡ suc (kind_number (kind_meant f)) → u ≡ new_delta code a → n ≡ replaced_of cut i (N.Updated u) → Updates img p stk i a n
   updates-new {f} {code} {u} c e d z m y q = record {
     writes = λ s w k given end g.
         let v = none-live w c e in
-        let b : type_below s i ≡ some (kind_meant f) = sym (type-under k w.is v) ∙ sym d ∙ ap type_of z in
+        let b : type_below s i ≡ Some (kind_meant f) = sym (type-under k w.is v) ∙ sym d ∙ ap type_of z in
         let x : u ≡ new_delta (suc (kind_number (kind_meant f))) a = y ∙ ap (λ (j : ℕ). new_delta j a) m in
-        new-bytes w a given c (N.Updated (new_delta (suc (kind_number (kind_meant f))) a)) none (bare_delta (fields_meant given a) (kind_meant f))
+        new-bytes w a given c (N.Updated (new_delta (suc (kind_number (kind_meant f))) a)) None (bare_delta (fields_meant given a) (kind_meant f))
         (q ∙ ap (λ (r : Updated). replaced_of cut i (N.Updated r)) x) v (ap (map_if (bare_delta (fields_meant given a))) b)
         (ap (λ (l : List ℕ). number_bytes i ++ l) (new-delta-bytes img given (kind_meant f) a cut.after end g));
   }
 
   -- "or does nothing if none exists"
-  pub updates-none : {n : NewLive} → CutsRecords img p.live i cut → cut.place ≡ A.Nowhere → type_of t ≡ shown type img stk → t ≡ M.None
+  pub updates-none : {n : NewLive} → CutsRecords img p.live i cut → cut.place ≡ None → type_of t ≡ shown type img stk → t ≡ None
       → n ≡ unchanged_of cut i
       → Updates img p stk i a n
   updates-none c e d z q = record {
     writes = λ s w k given end g.
         let v = none-live w c e in
-        let b : type_below s i ≡ none = sym (type-under k w.is v) ∙ sym d ∙ ap type_of z in
+        let b : type_below s i ≡ None = sym (type-under k w.is v) ∙ sym d ∙ ap type_of z in
         ap (one_image img given given p) q
-        ∙ unchanged-image w c given given none v
+        ∙ unchanged-image w c given given None v
         ∙ ap (λ (x : Option Record). write_image (set_live (put by_number i x s.live) s))
         (sym (ap (new_of given a i s) v ∙ ap (map_if (bare_delta (fields_meant given a))) b));
   }
@@ -196,7 +192,7 @@ module _ {img : List ℕ} {p : Sections} {stk : InodeLayerStack} {i : ℕ} {a : 
 -- ---- the call
 
 module _ {given : List ℕ} {a : AttrDelta} where
-  given-bad : (next : Cursor) → ReadsAttr given (At 0) a next → left_over next (length given) ≡ true → given_fields given ≡ none
+  given-bad : (next : Cursor) → ReadsAttr given (At 0) a next → left_over next (length given) ≡ true → given_fields given ≡ None
   unfolding decode
   given-bad (At q) r h = read-longer fields r.reads (λ e. go (eqb q (length given)) refl e h)
     where
@@ -206,7 +202,7 @@ module _ {given : List ℕ} {a : AttrDelta} where
   given-bad (Stop f) r h = rw r.reads.same
 
   given-good : (next : Cursor) → ReadsAttr given (At 0) a next → left_over next (length given) ≡ false
-      → (given_fields given ≡ some (fields_meant given a)) × ((end : ℕ) × ListedIf given U.Change a.xattrs end)
+      → (given_fields given ≡ Some (fields_meant given a)) × ((end : ℕ) × ListedIf given U.Change a.xattrs end)
   given-good (At q) r h = (read_whole fields r.reads (go (eqb q (length given)) refl h), (q, r.listed))
     where
       go : (b : Bool) → eqb q (length given) ≡ b → not b ≡ false → q ≡ length given

@@ -1,6 +1,6 @@
 -- Update. Document 01: "Update merges into a live delta, field by field and attribute by attribute; does nothing on a live tombstone; with no
 -- live record makes a delta of the type below, device 0, or does nothing if none exists."
-use Rattle.std.specs.Prelude.{◌≡◌, Bool, true, not, List, ℕ, eqb}
+use Rattle.std.specs.Prelude.{◌≡◌, Bool, true, not, List, ℕ, eqb, None}
 use Rattle.wire.specs.declared.cursor.Cursor.{Cursor}
 use Rattle.wire.specs.declared.cursor.Cursor.TheVariants as C
 use Rattle.image.specs.Meaning.{Delta, Record, Store, tombstone, delta}
@@ -12,7 +12,6 @@ use Rattle.image.specs.RoundTrip.{write_image}
 use Rattle.nodes.specs.Listed.{ListedIf}
 use Rattle.nodes.specs.Attrs.{fields_meant}
 use Rattle.nodes.specs.declared.attr.AttrDelta.{AttrDelta}
-use Rattle.nodes.specs.declared.option.OptionPart.TheVariants as P
 use Rattle.stack.specs.Stacks.{StackOf}
 use Rattle.rules.specs.Changes.{merge_fields, updated}
 use Rattle.rules.specs.Queue.{on_live, type_below}
@@ -31,7 +30,7 @@ left_over (C.At q) n = not (eqb q n)
 left_over (C.Stop f) n = true
 
 abbrev pub new_delta : ℕ → AttrDelta → Updated
-new_delta code a = record { code = code; attr_delta = a; new = a.xattrs; old = P.None; change = K.Bare }
+new_delta code a = record { code = code; attr_delta = a; new = a.xattrs; old = None; change = K.Bare }
 
 -- the fields of a delta, with those given over them
 abbrev pub merged_delta : List ℕ → AttrDelta → Delta → Record

@@ -15,11 +15,9 @@ use change::cut::cut_records;
 use change::section::{Sections, open_inode};
 use fields::fields::attr_over;
 use nodes::attr::{AttrDelta, read_attr_delta};
-use nodes::option::OptionPart;
 use overlay::record::{NewChange, NewRecord, Updated};
 use overlay::write::{NewLive, replaced, unchanged, write_record};
-use passes::inode::Place;
-use stack::file_type::{OptionType, type_in};
+use stack::file_type::type_in;
 use survey::batch::InodeLayerStack;
 use wire::cursor::{Cursor, place_at};
 use wire::number::read_number;
@@ -68,18 +66,18 @@ fn with_fields(
     let cut = cut_records(img, sections.live, ino);
     let place = cut.place;
     match place {
-        Place::At(at) => {
+        Some(at) => {
             let new = onto_live(img, at, fields);
             replaced(cut, ino, new)
         }
-        Place::Nowhere => {
+        None => {
             let below = type_in(img, stack);
             match below {
-                OptionType::Some(kind) => {
+                Some(kind) => {
                     let new = new_delta(type_code(kind), fields);
                     replaced(cut, ino, NewRecord::Updated(new))
                 }
-                OptionType::None => unchanged(cut, ino),
+                None => unchanged(cut, ino),
             }
         }
     }
@@ -117,7 +115,7 @@ fn new_delta(code: u64, fields: AttrDelta) -> Updated
         code,
         attr_delta: fields,
         new,
-        old: OptionPart::None,
+        old: None,
         change: NewChange::Bare,
     }
 }

@@ -1,6 +1,6 @@
 // One line of the list, and its answer.
+use std::cmp::Ordering;
 use crate::reads;
-use passes::inode::Place;
 use script::line::{bytes, decimal, same, word};
 use script::show;
 use std::io;
@@ -8,7 +8,7 @@ use survey::batch::InodeLayerStack;
 use survey::store::{Verdict, read_image};
 use wire::cursor::Cursor;
 use wire::number::{put_number, read_number};
-use wire::order::{Ordering, compare_part};
+use wire::order::compare_part;
 use wire::part::part;
 use wire::text::{put_text, read_text};
 use wire::time::{put_time, read_time};
@@ -135,8 +135,8 @@ fn image(rt: &impl Print, line: &[u8]) -> io::Result<()> {
 fn stack(rt: &impl Print, found: InodeLayerStack) -> io::Result<()> {
     let base = found.base;
     match base {
-        Place::At(place) => show::number(rt, place as u64)?,
-        Place::Nowhere => show::text(rt, b"-")?,
+        Some(place) => show::number(rt, place as u64)?,
+        None => show::text(rt, b"-")?,
     }
     let deltas = found.deltas;
     for delta in deltas.iter().take(found.count) {

@@ -1,7 +1,7 @@
 -- A walk over the first layers of an image, one layer after the other.
 -- Assumes nothing.
+use Rattle.std.specs.Prelude.{None, Option, Some}
 use mathlib.Core.Path.{◌≡◌, refl, sym, ap, ◌∙◌}
-use mathlib.Core.Option.{Option, none, some}
 use mathlib.Core.Bool.{Bool, true, false}
 use mathlib.Core.List.{List, [], ◌∷◌, ◌++◌, map, append_assoc, append-nil}
 use Prim.Native.Nat.{ℕ, zero, suc, ◌+◌, ◌-◌, ◌≤◌, ◌<◌}
@@ -53,15 +53,15 @@ module _ (h : Held) where
   unfolding rows_read
   rows_are prev [] t f = refl
   rows_are prev (e ∷ l) t f =
-      let r = chain_write (row by_number inode (held h)) (onto by_number inode (held h)) (some e.0) l ++ t in
-      rw (append_assoc (inode.write e.0 ++ (held h).write e.1), (inode then held h).back e r f.0, rows_are (some e.0) l t f.1)
+      let r = chain_write (row by_number inode (held h)) (onto by_number inode (held h)) (Some e.0) l ++ t in
+      rw (append_assoc (inode.write e.0 ++ (held h).write e.1), (inode then held h).back e r f.0, rows_are (Some e.0) l t f.1)
 
   pub list-are : (m : Map by_number (HeldUnder h)) (t : List ℕ) → (listed by_number inode (held h)).Fits m
       → list_rows h ((listed by_number inode (held h)).write m ++ t) ≡ map (map_row by_number (piece h)) m.rows
   list-are m t f =
       let n = number_bytes (length m.rows) in
-      let r = chain_write (row by_number inode (held h)) (onto by_number inode (held h)) none m.rows in
-      rw (append_assoc n r t, number-back last_count refl (length m.rows) (r ++ t) (omega (arith, f.count))) (rows_are none m.rows t f.each)
+      let r = chain_write (row by_number inode (held h)) (onto by_number inode (held h)) None m.rows in
+      rw (append_assoc n r t, number-back last_count refl (length m.rows) (r ++ t) (omega (arith, f.count))) (rows_are None m.rows t f.each)
 
 -- ---- maps as rows
 

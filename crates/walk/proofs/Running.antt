@@ -1,7 +1,7 @@
 -- How a run is read in the image, row by row, and moved past an inode.
 -- Assumes nothing.
+use Rattle.std.specs.Prelude.{None, Option, Some}
 use mathlib.Core.Path.{◌≡◌, refl, sym, ◌∙◌}
-use mathlib.Core.Option.{Option, none, some}
 use mathlib.Core.Bool.{Bool, true, false}
 use mathlib.Core.List.{List, [], ◌∷◌}
 use Prim.Native.Nat.{ℕ, zero, suc, ◌+◌, ◌*◌, ◌-◌, ◌≤◌, ◌<◌}
@@ -13,8 +13,8 @@ use borrow.Author.Tests.{eqb-true, eqb-false}
 use Rattle.wire.specs.declared.cursor.Fault.{Fault}
 use Rattle.wire.specs.declared.cursor.Cursor.{Cursor}
 use Rattle.wire.specs.declared.cursor.Cursor.TheVariants.{At, Stop}
-use Rattle.wire.specs.declared.order.Ordering.{Ordering}
-use Rattle.wire.specs.declared.order.Ordering.TheVariants.{Less, Equal, Greater}
+use Rattle.std.specs.declared.cmp.Ordering.{Ordering}
+use Rattle.std.specs.declared.cmp.Ordering.TheVariants.{Less, Equal, Greater}
 use Rattle.wire.specs.Parse.{fault, got, never-got}
 use Rattle.wire.specs.Combinators.{◌then◌}
 use Rattle.wire.specs.Number.{edge, number_read}
@@ -23,11 +23,9 @@ use Rattle.wire.specs.Rows.{choose}
 use Rattle.wire.specs.Lists.{last_count}
 use Rattle.wire.specs.Reading.{Answers, place_at}
 use Rattle.image.specs.FieldLayout.{inode}
-use Rattle.passes.specs.Held.{HeldUnder, held, place_of}
+use Rattle.passes.specs.Held.{HeldUnder, held}
 use Rattle.image.specs.Places.{Ends, if_read}
 use Rattle.passes.specs.declared.inode.Held.{Held}
-use Rattle.passes.specs.declared.inode.Place.{Place}
-use Rattle.passes.specs.declared.inode.Place.TheVariants as P
 use Rattle.image.proofs.Passing.{ends-got, ends-fault}
 use Rattle.merge.specs.Pile.{head_if, pass}
 use Rattle.walk.specs.Runs.{run_at, with_run, Piece, piece, Row, rows_if, rows_read, rows_left, run_rows, Ended, Sound, RowsOf, ListOf, Has}
@@ -188,31 +186,31 @@ has_left {r} w e = go r.left (w.yes e).0
 
 -- what stands at a place, if it is one
 abbrev pub piece_at : List ℕ → Held → Option ℕ → Option Piece
-piece_at img h none = none
-piece_at img h (some p) = if_read ((held h).read (drop p img)) (λ a r. some (piece h a))
+piece_at img h None = None
+piece_at img h (Some p) = if_read ((held h).read (drop p img)) (λ a r. Some (piece h a))
 
 abbrev pub ReadAt : List ℕ → Held → Option ℕ → Type 0
-ReadAt img h none = Unit {0}
-ReadAt img h (some p) = (a : HeldUnder h) × (r : List ℕ) × ((held h).read (drop p img) ≡ got a r)
+ReadAt img h None = Unit {0}
+ReadAt img h (Some p) = (a : HeldUnder h) × (r : List ℕ) × ((held h).read (drop p img) ≡ got a r)
 
 -- what stands at a place ends there
 abbrev pub EndsAt : List ℕ → Held → Option ℕ → ℕ → Type 0
-EndsAt img h none e = Unit {0}
-EndsAt img h (some p) e = (a : HeldUnder h) × ((held h).read (drop p img) ≡ got a (drop e img))
+EndsAt img h None e = Unit {0}
+EndsAt img h (Some p) e = (a : HeldUnder h) × ((held h).read (drop p img) ≡ got a (drop e img))
 
 -- run i of the array l is past the inode k in m, and the place is that of what stood under k in the run
-pub record Moved (img : List ℕ) (h : Held) (l : List ℕ) (i k : ℕ) (m : List ℕ) (place : Place) : Type 0 where
+pub record Moved (img : List ℕ) (h : Held) (l : List ℕ) (i k : ℕ) (m : List ℕ) (place : Option ℕ) : Type 0 where
   pub run : Run
   pub is : m ≡ with_run l i run
   pub rows : run_rows img h run ≡ pass by_number k (run_rows img h (run_at l i))
   pub sound : Sound img h run
-  pub head : head_if by_number k (run_rows img h (run_at l i)) ≡ piece_at img h (place_of place)
-  pub reads : ReadAt img h (place_of place)
-  pub ends : EndsAt img h (place_of place) (run_at l i).next
+  pub head : head_if by_number k (run_rows img h (run_at l i)) ≡ piece_at img h place
+  pub reads : ReadAt img h place
+  pub ends : EndsAt img h place (run_at l i).next
 
 module _ {img : List ℕ} {h : Held} {r : Run} {k : ℕ} (s : Sound img h r) where
   -- a run that is not at k has other rows, or none
-  other : (m : ℕ) → (m ≡ r.left) → ((r.left ≡ 0 → ⊥) → k ≡ r.inode → ⊥) → (head_if by_number k (rows_left img h r m) ≡ none) × (rows_left img h r m ≡ pass by_number k (rows_left img h r m))
+  other : (m : ℕ) → (m ≡ r.left) → ((r.left ≡ 0 → ⊥) → k ≡ r.inode → ⊥) → (head_if by_number k (rows_left img h r m) ≡ None) × (rows_left img h r m ≡ pass by_number k (rows_left img h r m))
   unfolding pass
   other zero e n = (refl, refl)
   other (suc m) e n =
@@ -220,14 +218,14 @@ module _ {img : List ℕ} {h : Held} {r : Run} {k : ℕ} (s : Sound img h r) whe
       let a = s.reads l in
       rw a.1 (go (cmp_n k r.inode) (λ q. n l (same-N k r.inode q)))
     where
-      go : {x : Row} {t : List Row} (o : Ordering) → (o ≡ Equal → ⊥) → (choose o (some x.1) none ≡ none) × (x ∷ t ≡ choose o t (x ∷ t))
+      go : {x : Row} {t : List Row} (o : Ordering) → (o ≡ Equal → ⊥) → (choose o (Some x.1) None ≡ None) × (x ∷ t ≡ choose o t (x ∷ t))
       go Less n = (refl, refl)
       go Equal n = absurd (n refl)
       go Greater n = (refl, refl)
 
   module _ {b : Bool} (w : Has r k b) where
     module _ {l : List ℕ} {i : ℕ} (z : r ≡ run_at l i) where
-      pub moved_here : b ≡ true → {next : Run} {m : List ℕ} → RowsOf img h (r.left - 1) r.next next → m ≡ with_run l i next → Moved img h l i k m (P.At r.place)
+      pub moved_here : b ≡ true → {next : Run} {m : List ℕ} → RowsOf img h (r.left - 1) r.next next → m ≡ with_run l i next → Moved img h l i k m (Some r.place)
       unfolding pass
       moved_here e {next} d q =
           let y = w.yes e in
@@ -242,7 +240,7 @@ module _ {img : List ℕ} {h : Held} {r : Run} {k : ℕ} (s : Sound img h r) whe
             ends = rw (← z) a;
           }
 
-      pub moved_other : b ≡ false → Moved img h l i k l P.Nowhere
+      pub moved_other : b ≡ false → Moved img h l i k l None
       moved_other e =
           let o = other r.left refl (w.no e) in
           record { run = r; is = rw z (sym (run-same l i)); rows = rw (← z) o.1; sound = s; head = rw (← z) o.0; reads = tt; ends = tt }

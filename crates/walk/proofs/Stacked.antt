@@ -1,12 +1,12 @@
 -- The stacks that a walk over a base and layers has left are those of the base and layers, for every inode in any of them.
 -- Assumes nothing.
+use Rattle.std.specs.Prelude.{None, Option, Some}
 use mathlib.Core.Path.{◌≡◌, refl}
-use mathlib.Core.Option.{Option, none, some}
 use mathlib.Core.List.{List, [], ◌∷◌}
 use Prim.Native.Nat.{ℕ}
 use native.Mathlib.Omega.{arith}
-use Rattle.wire.specs.declared.order.Ordering.{Ordering}
-use Rattle.wire.specs.declared.order.Ordering.TheVariants.{Less, Equal, Greater}
+use Rattle.std.specs.declared.cmp.Ordering.{Ordering}
+use Rattle.std.specs.declared.cmp.Ordering.TheVariants.{Less, Equal, Greater}
 use Rattle.wire.specs.Order.{Order}
 use Rattle.wire.specs.Orders.{by_number}
 use Rattle.wire.specs.Rows.{choose, lookup, Rising}
@@ -43,17 +43,17 @@ laid_on i (l ∷ ls) cs rs n e =
     laid_on i ls (map_values by_number of_record l ∷ cs) (over? (get by_number i l) rs) n (rw (get-merge, get-map) (go (get by_number i l)))
   where
     go : (o : Option Record) → or_nothing (meet (laying i) (map_if of_record o) (get by_number i (merged by_number laying cs))) ≡ (over? o rs, n)
-    go none = e
-    go (some r) = rw e
+    go None = e
+    go (Some r) = rw e
 
 module _ (b : Base) (ls : List Layer) where
   stack-under : (i : ℕ) → under i (maps_on ls (map_values by_number of_node b ∷ [])) ≡ (stack i ls, get by_number i b)
   unfolding merged
   stack-under i = laid_on i ls (map_values by_number of_node b ∷ []) [] (get by_number i b) (rw (get-merge, get-map, get-empty) (go (get by_number i b)))
     where
-      go : (o : Option Node) → ◌≡◌ {A = Pieces} (or_nothing (meet (laying i) (map_if of_node o) none)) ([], o)
-      go none = refl
-      go (some n) = refl
+      go : (o : Option Node) → ◌≡◌ {A = Pieces} (or_nothing (meet (laying i) (map_if of_node o) None)) ([], o)
+      go None = refl
+      go (Some n) = refl
 
   pub stacks-are : (i : ℕ) → or_nothing (lookup by_number i (stacks_of (layers_on ls (node_rows b ∷ [])))) ≡ (stack i ls, get by_number i b)
   unfolding rows_of map_values get
@@ -61,16 +61,16 @@ module _ (b : Base) (ls : List Layer) where
       rw (rows_on ls (map_values by_number of_node b ∷ []), pile-merged by_number laying (maps_on ls (map_values by_number of_node b ∷ []))) (stack-under i)
 
 -- each row is what a lookup of its key gives
-pub every-found : {K A : Type 0} (O : Order K) (P : K × A → Type 0) (l : List (K × A)) → Rising O l → ((k : K) (a : A) → lookup O k l ≡ some a → P (k, a)) → Every P l
+pub every-found : {K A : Type 0} (O : Order K) (P : K × A → Type 0) (l : List (K × A)) → Rising O l → ((k : K) (a : A) → lookup O k l ≡ Some a → P (k, a)) → Every P l
 unfolding lookup
 every-found O P [] r f = tt
 every-found {K} {A} O P (e ∷ l) r f = (f e.0 e.1 (rw (O.self e.0)), every-found O P l r.1 (λ k a h. f k a (go k a h (O.cmp k e.0) refl)))
   where
-    go : (k : K) (a : A) → lookup O k l ≡ some a → (d : Ordering) → O.cmp k e.0 ≡ d → choose d (some e.1) (lookup O k l) ≡ some a
+    go : (k : K) (a : A) → lookup O k l ≡ Some a → (d : Ordering) → O.cmp k e.0 ≡ d → choose d (Some e.1) (lookup O k l) ≡ Some a
     go k a h Less q = h
     go k a h Greater q = h
     go k a h Equal q =
-        let z : lookup O k l ≡ none = rw (O.same k e.0 q) (lookup-under O e.0 l r.0) in
+        let z : lookup O k l ≡ None = rw (O.same k e.0 q) (lookup-under O e.0 l r.0) in
         absurd (let y : ◌≡◌ {A = ℕ} 0 1 = cc in omega arith)
 
 -- the stack of each inode that is left

@@ -1,7 +1,7 @@
 -- A step of a walk: the least inode, its stack, and the walk past it.
 -- Assumes nothing.
+use Rattle.std.specs.Prelude.{None, Option, Some}
 use mathlib.Core.Path.{◌≡◌, refl, sym, ap, ◌∙◌}
-use mathlib.Core.Option.{Option, none, some}
 use mathlib.Core.Bool.{Bool, true, false}
 use mathlib.Core.List.{List, [], ◌∷◌, ◌++◌, append-nil}
 use Prim.Native.Nat.{ℕ, zero, suc, ◌+◌, ◌-◌, ◌≤◌, ◌<◌}
@@ -10,16 +10,14 @@ use native.Mathlib.Numerals.{add-one}
 use lib.Dec.{eqb}
 use lib.ListN.{length}
 use borrow.Author.Tests.{eqb-true, eqb-false}
-use Rattle.wire.specs.declared.order.Ordering.{Ordering}
-use Rattle.wire.specs.declared.order.Ordering.TheVariants.{Less, Equal, Greater}
+use Rattle.std.specs.declared.cmp.Ordering.{Ordering}
+use Rattle.std.specs.declared.cmp.Ordering.TheVariants.{Less, Equal, Greater}
 use Rattle.wire.specs.Orders.{by_number, greater-N, says, Says, cmp_n}
 use Rattle.wire.specs.Maps.{meet}
 use Rattle.image.specs.Meaning.{Node}
-use Rattle.passes.specs.Held.{place_of}
 use Rattle.survey.specs.Gathering.{list_if, deltas_of, Pushed}
 use Rattle.passes.specs.declared.inode.Held.{Held}
 use Rattle.passes.specs.declared.inode.Held.TheVariants as H
-use Rattle.passes.specs.declared.inode.Place.{Place}
 use Rattle.survey.specs.declared.batch.InodeLayerStack.{InodeLayerStack}
 use Rattle.rules.specs.Reads.{is_there}
 use Rattle.rules.specs.PlacedStacks.{records_on, unplaced, unplaced_node, node_at}
@@ -37,10 +35,10 @@ use Rattle.walk.proofs.Running.{EndsAt, runs-length, run-set, run-kept, piece_at
 
 -- ---- the lesser of two inodes
 
-key-first : (r : Run) → (r.left ≡ 0 → ⊥) → key_of r r.left ≡ some r.inode
+key-first : (r : Run) → (r.left ≡ 0 → ⊥) → key_of r r.left ≡ Some r.inode
 key-first r n = go r.left n
   where
-    go : (m : ℕ) → (m ≡ 0 → ⊥) → key_of r m ≡ some r.inode
+    go : (m : ℕ) → (m ≡ 0 → ⊥) → key_of r m ≡ Some r.inode
     go zero n = absurd (n refl)
     go (suc m) n = refl
 
@@ -55,7 +53,7 @@ module _ {best : First} {r : Run} where
     pub lower-taken : best.found ≡ true → r.inode ≤ best.inode → Lower best r (record { found = true; inode = r.inode })
     lower-taken e l = record { is = rw (key-first r n, e) (go (cmp_n r.inode best.inode) (says r.inode best.inode)) }
       where
-        go : (o : Ordering) → Says r.inode best.inode o → some r.inode ≡ pick_key by_number o r.inode best.inode
+        go : (o : Ordering) → Says r.inode best.inode o → Some r.inode ≡ pick_key by_number o r.inode best.inode
         go Less s = refl
         go Equal s = refl
         go Greater s = absurd (omega arith)
@@ -131,40 +129,40 @@ layer-set {img} {w} {i} {x} h k s n few low = let wide = h.wide in record {
 -- ---- the stack of an inode
 
 node-pieces : (img : List ℕ) (k : ℕ) (place : Option ℕ) → ReadAt img H.Node place
-    → ◌≡◌ {A = Pieces} ([], unplaced_node (node_at img place)) (or_nothing (meet (laying k) (piece_at img H.Node place) none))
-node-pieces img k none r = refl
-node-pieces img k (some p) r = rw r.2
+    → ◌≡◌ {A = Pieces} ([], unplaced_node (node_at img place)) (or_nothing (meet (laying k) (piece_at img H.Node place) None))
+node-pieces img k None r = refl
+node-pieces img k (Some p) r = rw r.2
 
 -- a record more, if there is one
 record-pieces : (img : List ℕ) (k : ℕ) (ps : List ℕ) (place : Option ℕ) (b : Option Node) (o : Option Pieces) → ReadAt img H.Record place
     → ◌≡◌ {A = Pieces} (unplaced (records_on img ps []), b) (or_nothing o)
     → ◌≡◌ {A = Pieces} (unplaced (records_on img (ps ++ list_if place) []), b) (or_nothing (meet (laying k) (piece_at img H.Record place) o))
-record-pieces img k ps none b o r e = rw append-nil e
-record-pieces img k ps (some p) b o r e = rw (records-snoc, r.2, ← e)
+record-pieces img k ps None b o r e = rw append-nil e
+record-pieces img k ps (Some p) b o r e = rw (records-snoc, r.2, ← e)
 
 read-node : (img : List ℕ) (place : Option ℕ) → ReadAt img H.Node place → NodeRead img place
-read-node img none r = tt
-read-node img (some p) r = r
+read-node img None r = tt
+read-node img (Some p) r = r
 
 read_more : (img ps : List ℕ) (place : Option ℕ) → AllRead img ps → ReadAt img H.Record place → AllRead img (ps ++ list_if place)
-read_more img [] none h r = tt
-read_more img [] (some p) h r = (r, tt)
-read_more img (q ∷ ps) none h r = (h.0, read_more img ps none h.1 r)
-read_more img (q ∷ ps) (some p) h r = (h.0, read_more img ps (some p) h.1 r)
+read_more img [] None h r = tt
+read_more img [] (Some p) h r = (r, tt)
+read_more img (q ∷ ps) None h r = (h.0, read_more img ps None h.1 r)
+read_more img (q ∷ ps) (Some p) h r = (h.0, read_more img ps (Some p) h.1 r)
 
 -- the base and the lowest i of the layers in an array are past the inode k, and the others are not moved
 pub record Taking (img l : List ℕ) (k : ℕ) (out : List ℕ) (stack : InodeLayerStack) (b : Bool) (i : ℕ) : Type 0 where
   ahead : (j : ℕ) → i < j → run_at out j ≡ run_at l j
   rest : sources_under img out i ≡ pass_all by_number k (sources_under img l i)
-  node : NodeRead img (place_of stack.base)
+  node : NodeRead img stack.base
   records : AllRead img (deltas_of stack)
   pieces : pieces_in img stack ≡ or_nothing (answer by_number laying k (sources_under img l i))
   top : b ≡ is_there (head_if by_number k (top_of (sources_under img l i)))
 
 -- where the node ends
 node-ends : (img : List ℕ) (o : Option ℕ) (e : ℕ) → EndsAt img H.Node o e → NodeEnds img o e
-node-ends img none e h = tt
-node-ends img (some p) e h = h
+node-ends img None e h = tt
+node-ends img (Some p) e h = h
 
 -- the loop, from what is in hand where it starts
 pub record Layering (img : List ℕ) (n k : ℕ) (l₀ : List ℕ) (stack₀ : InodeLayerStack) (b₀ : Bool) (l : List ℕ) (stack : InodeLayerStack) (b : Bool) (i : ℕ) : Type 0 where
@@ -179,7 +177,7 @@ module _ {img : List ℕ} {w : Walk} (h : Whole img w) where
   pub base-sound : {base : Run} → base ≡ run_at w.runs 0 → Sound img H.Node base
   base-sound z = rw z h.base
 
-  module _ {k : ℕ} {l : List ℕ} {place : Place} (p : Moved img H.Node w.runs 0 k l place) where
+  module _ {k : ℕ} {l : List ℕ} {place : Option ℕ} (p : Moved img H.Node w.runs 0 k l place) where
     pub layering-start : {stack : InodeLayerStack} {b : Bool} → stack.count ≡ 0 → length stack.deltas ≡ 17 → Layering img w.count k l stack b l stack b 0
     layering-start c d = record { low = omega arith; whole = rw p.is (base-set h p.sound); few = omega arith; wide = d; base = refl; taken = λ from t. t }
 
@@ -191,9 +189,9 @@ module _ {img : List ℕ} {w : Walk} (h : Whole img w) where
           record {
             ahead = λ j m. rw p.is (run-kept w.runs 0 p.run j (λ e. omega arith));
             rest = rw (p.is, run-set w.runs 0 p.run (omega arith), p.rows);
-            node = read-node img (place_of place) p.reads;
+            node = read-node img place p.reads;
             records = tt;
-            pieces = rw p.head (node-pieces img k (place_of place) p.reads);
+            pieces = rw p.head (node-pieces img k place p.reads);
             top = rw (← z) (has-head (base-sound z) a);
           }
 
@@ -209,7 +207,7 @@ module _ {img : List ℕ} {w : Walk} (h : Whole img w) where
             rest = rw y at t.rest;
             whole = g.whole;
             stacked = record { node = t.node; records = t.records; few = omega (arith, g.few); wide = g.wide };
-            ends = rw (g.base, z) (node-ends img (place_of place) _ p.ends);
+            ends = rw (g.base, z) (node-ends img place _ p.ends);
             pieces = rw y at t.pieces;
             top = rw y at t.top;
           }
@@ -220,7 +218,7 @@ module _ {img : List ℕ} {n k : ℕ} {l₀ : List ℕ} {stack₀ : InodeLayerSt
   layer-sound = rw (z, add-one) (g.whole.sound i h)
 
   module _ {top : Bool} (a : Has run k top) where
-    module _ {m : List ℕ} {place : Place} {next : InodeLayerStack} (p : Moved img H.Record l (i + 1) k m place) (u : Pushed stack (place_of place) next) where
+    module _ {m : List ℕ} {place : Option ℕ} {next : InodeLayerStack} (p : Moved img H.Record l (i + 1) k m place) (u : Pushed stack place next) where
       taking-more : (from : List ℕ) → Taking img from k l stack b i → Taking img from k (with_run l (suc i) p.run) next top (suc i)
       unfolding sources_under pass_all answer
       taking-more from t =
@@ -230,10 +228,10 @@ module _ {img : List ℕ} {n k : ℕ} {l₀ : List ℕ} {stack₀ : InodeLayerSt
             ahead = λ j m. run-kept l (suc i) p.run j (λ e. omega arith) ∙ t.ahead j (omega arith);
             rest = sources-set img l i p.run (omega arith) g.whole.wide ∙ rw (here, p.rows, t.rest);
             node = rw u.base t.node;
-            records = rw u.places (read_more img (deltas_of stack) (place_of place) t.records p.reads);
+            records = rw u.places (read_more img (deltas_of stack) place t.records p.reads);
             pieces =
                 rw (here, u.places, u.base, p.head)
-                (record-pieces img k (deltas_of stack) (place_of place) (unplaced_node (node_at img (place_of stack.base))) (answer by_number laying k (sources_under img from i)) p.reads t.pieces);
+                (record-pieces img k (deltas_of stack) place (unplaced_node (node_at img stack.base)) (answer by_number laying k (sources_under img from i)) p.reads t.pieces);
             top = rw (here, ← z) (has-head layer-sound a);
           }
 
@@ -251,7 +249,7 @@ module _ {img : List ℕ} {n k : ℕ} {l₀ : List ℕ} {stack₀ : InodeLayerSt
           })
 
     pub layering-here : top ≡ true → {out : Run} {m : List ℕ} {next : InodeLayerStack} → RowsOf img H.Record (run.left - 1) run.next out → m ≡ with_run l (i + 1) out
-        → Pushed stack (some run.place) next → Layering img n k l₀ stack₀ b₀ m next top (i + 1)
+        → Pushed stack (Some run.place) next → Layering img n k l₀ stack₀ b₀ m next top (i + 1)
     layering-here e d q u = layering-more (moved_here layer-sound a z e d q) u
 
     -- no place more
@@ -261,31 +259,31 @@ module _ {img : List ℕ} {n k : ℕ} {l₀ : List ℕ} {stack₀ : InodeLayerSt
 -- ---- the step
 
 -- an inode that stands first somewhere has a stack
-answered : (ss : List (List Row)) (k : ℕ) → least_key by_number ss ≡ some k → answer by_number laying k ss ≡ some (or_nothing (answer by_number laying k ss))
+answered : (ss : List (List Row)) (k : ℕ) → least_key by_number ss ≡ Some k → answer by_number laying k ss ≡ Some (or_nothing (answer by_number laying k ss))
 unfolding least_key answer
 answered [] k h = cc
 answered ([] ∷ ss) k h = answered ss k h
 answered ((u ∷ s) ∷ ss) k h = go (least_key by_number ss) refl h (answered ss)
   where
     Sure : Option Pieces → Type 0
-    Sure o = o ≡ some (or_nothing o)
+    Sure o = o ≡ Some (or_nothing o)
 
-    here : some u.0 ≡ some k → Sure (meet (laying k) (head_if by_number k (u ∷ s)) (answer by_number laying k ss))
+    here : Some u.0 ≡ Some k → Sure (meet (laying k) (head_if by_number k (u ∷ s)) (answer by_number laying k ss))
     here h = let z : u.0 ≡ k = cc in rw (← z, by_number.self u.0)
 
     below : (o : Option Piece) → Sure (answer by_number laying k ss) → Sure (meet (laying k) o (answer by_number laying k ss))
-    below none e = e
-    below (some c) e = refl
+    below None e = e
+    below (Some c) e = refl
 
-    go : (o : Option ℕ) → least_key by_number ss ≡ o → lower by_number (some u.0) o ≡ some k → ((j : ℕ) → least_key by_number ss ≡ some j → Sure (answer by_number laying j ss))
+    go : (o : Option ℕ) → least_key by_number ss ≡ o → lower by_number (Some u.0) o ≡ Some k → ((j : ℕ) → least_key by_number ss ≡ Some j → Sure (answer by_number laying j ss))
         → Sure (meet (laying k) (head_if by_number k (u ∷ s)) (answer by_number laying k ss))
-    go none e h ih = here h
-    go (some b) e h ih = choice (cmp_n u.0 b) h
+    go None e h ih = here h
+    go (Some b) e h ih = choice (cmp_n u.0 b) h
       where
-        choice : (d : Ordering) → pick_key by_number d u.0 b ≡ some k → Sure (meet (laying k) (head_if by_number k (u ∷ s)) (answer by_number laying k ss))
+        choice : (d : Ordering) → pick_key by_number d u.0 b ≡ Some k → Sure (meet (laying k) (head_if by_number k (u ∷ s)) (answer by_number laying k ss))
         choice Less h = here h
         choice Equal h = here h
-        choice Greater h = let z : b ≡ k = cc in below (head_if by_number k (u ∷ s)) (ih k (e ∙ ap some z))
+        choice Greater h = let z : b ≡ k = cc in below (head_if by_number k (u ∷ s)) (ih k (e ∙ ap Some z))
 
 pub stepped : {img : List ℕ} {w : Walk} → Ready img w → {best : First} → Least w best → {r : Step} {rest : Walk} → Taken img w best.inode r rest
     → Steps img w (record { more = best.found; inode = r.inode; top = r.top; stack = r.stack; end = r.end }) rest

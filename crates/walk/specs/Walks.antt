@@ -1,12 +1,10 @@
 -- What a walk over the base and layers promises. Document 01: "An inode's stack is its base node, its record in each batch (front first),
 -- its live record; any may be absent."
-use Rattle.std.specs.Prelude.{◌≡◌, Bool, true, false, List, [], ◌∷◌, ℕ, zero, suc, ◌≤◌, ◌<◌, length, drop}
-use Rattle.std.proofs.Math.Option.{Option, none, some}
+use Rattle.std.specs.Prelude.{◌≡◌, Bool, true, false, List, [], ◌∷◌, ℕ, zero, suc, ◌≤◌, ◌<◌, length, drop, None, Option, Some}
 use Rattle.wire.specs.Orders.{by_number}
 use Rattle.wire.specs.Parse.{got}
 use Rattle.image.specs.Meaning.{Node, Record}
 use Rattle.image.specs.NodeLayout.{node}
-use Rattle.passes.specs.Held.{place_of}
 use Rattle.passes.specs.declared.inode.Held.TheVariants as H
 use Rattle.survey.specs.declared.batch.InodeLayerStack.{InodeLayerStack}
 use Rattle.rules.specs.Reads.{is_there}
@@ -26,16 +24,16 @@ abbrev pub Pieces : Type 0
 Pieces = List Record × Option Node
 
 abbrev pub lay : Piece → Pieces → Pieces
-lay (of_node n) x = (x.0, some n)
+lay (of_node n) x = (x.0, Some n)
 lay (of_record r) x = (r ∷ x.0, x.1)
 
 abbrev pub or_nothing : Option Pieces → Pieces
-or_nothing none = ([], none)
-or_nothing (some x) = x
+or_nothing None = ([], None)
+or_nothing (Some x) = x
 
 -- a piece over what is beneath it
 abbrev pub laying : ℕ → Piece → Option Pieces → Option Pieces
-laying i c below = some (lay c (or_nothing below))
+laying i c below = Some (lay c (or_nothing below))
 
 -- each inode that stands in a run, rising, with its stack
 abbrev pub stacks_of : List (List Row) → List (ℕ × Pieces)
@@ -80,12 +78,12 @@ pub record Ready (img : List ℕ) (w : Walk) : Type 0 where
 -- ---- a step
 
 abbrev pub key_if : Bool → ℕ → Option ℕ
-key_if true k = some k
-key_if false k = none
+key_if true k = Some k
+key_if false k = None
 
 abbrev pub key_of : Run → ℕ → Option ℕ
-key_of r zero = none
-key_of r (suc n) = some r.inode
+key_of r zero = None
+key_of r (suc n) = Some r.inode
 
 pub record Lower (best : First) (r : Run) (out : First) : Type 0 where
   pub is : key_if out.found out.inode ≡ lower by_number (key_of r r.left) (key_if best.found best.inode)
@@ -95,8 +93,8 @@ pub record Least (w : Walk) (r : First) : Type 0 where
 
 -- the node at a place ends there; no place, no node
 abbrev pub NodeEnds : List ℕ → Option ℕ → ℕ → Type 0
-NodeEnds img none e = Unit {0}
-NodeEnds img (some p) e = (a : Node) × (node.read (drop p img) ≡ got a (drop e img))
+NodeEnds img None e = Unit {0}
+NodeEnds img (Some p) e = (a : Node) × (node.read (drop p img) ≡ got a (drop e img))
 
 -- the places of what stands under the inode k, and the walk past it
 pub record Taken (img : List ℕ) (w : Walk) (k : ℕ) (r : Step) (out : Walk) : Type 0 where
@@ -104,7 +102,7 @@ pub record Taken (img : List ℕ) (w : Walk) (k : ℕ) (r : Step) (out : Walk) :
   pub rest : sources_of img out ≡ pass_all by_number k (sources_of img w)
   pub whole : Whole img out
   pub stacked : Stacked img r.stack
-  pub ends : NodeEnds img (place_of r.stack.base) r.end
+  pub ends : NodeEnds img r.stack.base r.end
   pub pieces : pieces_in img r.stack ≡ or_nothing (answer by_number laying k (sources_of img w))
   pub top : r.top ≡ is_there (head_if by_number k (top_of (sources_of img w)))
 
@@ -117,4 +115,4 @@ pub record Steps (img : List ℕ) (w : Walk) (r : Step) (rest : Walk) : Type 0 w
   pub stacks : stacks_left img w ≡ stacks_if r.more (r.inode, pieces_in img r.stack) (stacks_left img rest)
   pub taken : Taken img w r.inode r rest
   pub ready : Ready img rest
-  pub ended : r.more ≡ false → least_key by_number (sources_of img w) ≡ none
+  pub ended : r.more ≡ false → least_key by_number (sources_of img w) ≡ None

@@ -3,7 +3,7 @@ ghost use Rattle.std.specs.Prelude.{◌≤◌};
 ghost use Rattle.walk.specs.Walks.{walk_of, Whole, Ready, Lower, Least, Taken, Steps};
 
 use crate::run::{Run, has_inode, run_from, run_of, set_run};
-use passes::inode::{Held, Place};
+use passes::inode::Held;
 use survey::batch::{InodeLayerStack, pushed};
 
 // The base, and `count` layers over it, the lowest first: of each run four numbers.
@@ -73,10 +73,10 @@ fn take_stack(img: &[u8], runs: &mut [u64; 72], count: usize, inode: u64) -> Ste
 {
     let base = run_of(runs, 0);
     let mut top = has_inode(base, inode);
-    let mut node = Place::Nowhere;
+    let mut node = None;
     if top {
         set_run(runs, 0, run_from(img, base.next, base.left - 1, Held::Node));
-        node = Place::At(base.place);
+        node = Some(base.place);
     }
     let mut stack = InodeLayerStack {
         base: node,
@@ -88,7 +88,7 @@ fn take_stack(img: &[u8], runs: &mut [u64; 72], count: usize, inode: u64) -> Ste
         top = has_inode(run, inode);
         if top {
             set_run(runs, i, run_from(img, run.next, run.left - 1, Held::Record));
-            stack = pushed(stack, Place::At(run.place));
+            stack = pushed(stack, Some(run.place));
         }
     }
     Step {

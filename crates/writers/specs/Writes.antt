@@ -1,7 +1,7 @@
 -- What the writers of the image's constructs write.
-use Rattle.std.specs.Prelude.{◌≡◌, refl, List, ◌++◌, ℕ, ◌+◌, ◌*◌}
+use Rattle.nodes.specs.declared.part.Part.{Part}
+use Rattle.std.specs.Prelude.{◌≡◌, refl, List, ◌++◌, ℕ, ◌+◌, ◌*◌, None, Option, Some}
 use Rattle.std.proofs.Common.{append_assoc}
-use Rattle.std.proofs.Math.Option.{Option}
 use Rattle.wire.specs.Combinators.{count, opt_write}
 use Rattle.wire.specs.Number.{number_bytes}
 use Rattle.image.specs.declared.name.Under.TheVariants as U
@@ -9,49 +9,46 @@ use Rattle.image.specs.Meaning.{Attributes, Changes, Fields, Meta}
 use Rattle.image.specs.FieldLayout.{word, moment}
 use Rattle.image.specs.NodeLayout.{meta_of}
 use Rattle.image.specs.RecordLayout.{changes, fields_of, field_parts, flags, fields}
-use Rattle.nodes.specs.Options.{word_of, time_of}
 use Rattle.nodes.specs.Listed.{list_of}
 use Rattle.nodes.specs.Attrs.{fields_meant}
-use Rattle.nodes.specs.declared.option.OptionPart.{OptionPart}
-use Rattle.nodes.specs.declared.option.OptionPart.TheVariants as P
 use Rattle.nodes.specs.declared.attr.AttrDelta.{AttrDelta}
 use Rattle.nodes.specs.declared.node.InodeMeta.{InodeMeta}
 
 -- the bit of a part: 1 if it is there
-abbrev pub part_bit : OptionPart → ℕ
-part_bit (P.Some p) = 1
-part_bit P.None = 0
+abbrev pub part_bit : Option Part → ℕ
+part_bit (Some p) = 1
+part_bit None = 0
 
 -- "a mask (bit 0 upward: mode, owner, group, links, atime, mtime, ctime, created, attributes)": its upper five bits
 abbrev pub later_mask : AttrDelta → ℕ
 later_mask a =
-    count (time_of a.atime) + 2 * (count (time_of a.mtime) + 2 * (count (time_of a.ctime) + 2 * (count (time_of a.created_at) + 2 * part_bit a.xattrs)))
+    count a.atime + 2 * (count a.mtime + 2 * (count a.ctime + 2 * (count a.created_at + 2 * part_bit a.xattrs)))
 
 abbrev pub mask_of : AttrDelta → ℕ
 mask_of a =
-    count (word_of a.mode) + 2 * (count (word_of a.uid) + 2 * (count (word_of a.gid) + 2 * (count (word_of a.nlink) + 2 * later_mask a)))
+    count a.mode + 2 * (count a.uid + 2 * (count a.gid + 2 * (count a.nlink + 2 * later_mask a)))
 
 -- "the fields present", from the first time on, without the attribute changes
 abbrev pub times_bytes : AttrDelta → List ℕ
 times_bytes a =
-    opt_write moment (time_of a.atime) ++ opt_write moment (time_of a.mtime) ++ opt_write moment (time_of a.ctime) ++ opt_write moment (time_of a.created_at)
+    opt_write moment a.atime ++ opt_write moment a.mtime ++ opt_write moment a.ctime ++ opt_write moment a.created_at
 
 -- "a mask; the fields present", without the attribute changes, which stand in the image
 abbrev pub attr_bytes : AttrDelta → List ℕ
 attr_bytes a =
-    number_bytes (mask_of a) ++ opt_write word (word_of a.mode) ++ opt_write word (word_of a.uid) ++ opt_write word (word_of a.gid)
-    ++ opt_write word (word_of a.nlink) ++ times_bytes a
+    number_bytes (mask_of a) ++ opt_write word a.mode ++ opt_write word a.uid ++ opt_write word a.gid
+    ++ opt_write word a.nlink ++ times_bytes a
 
 -- ---- the same by the layout, whose last field is the attribute changes
 
-pub list-bit : (img : List ℕ) (o : OptionPart) → count (list_of img U.Change o) ≡ part_bit o
-list-bit img (P.Some p) = refl
-list-bit img P.None = refl
+pub list-bit : (img : List ℕ) (o : Option Part) → count (list_of img U.Change o) ≡ part_bit o
+list-bit img (Some p) = refl
+list-bit img None = refl
 
 -- the fields, with these attribute changes
 abbrev pub fields_with : AttrDelta → Option Changes → Fields
 fields_with a o =
-    fields_of (word_of a.mode, (word_of a.uid, (word_of a.gid, (word_of a.nlink, (time_of a.atime, (time_of a.mtime, (time_of a.ctime, (time_of a.created_at, o))))))))
+    fields_of (a.mode, (a.uid, (a.gid, (a.nlink, (a.atime, (a.mtime, (a.ctime, (a.created_at, o))))))))
 
 module _ (a : AttrDelta) (o : Option Changes) (e : count o ≡ part_bit a.xattrs) where
   pub mask-bits : flags.mask (field_parts (fields_with a o)) ≡ mask_of a

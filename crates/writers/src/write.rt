@@ -4,45 +4,44 @@ ghost use Rattle.wire.specs.Put.{Put};
 ghost use Rattle.wire.specs.Text.{text_bytes};
 ghost use Rattle.image.specs.Masks.{maybe};
 ghost use Rattle.image.specs.FieldLayout.{word, moment, inode as inodeCodec, name as nameCodec, target};
-ghost use Rattle.nodes.specs.Options.{word_of, number_of, time_of, text_at, text_of};
+ghost use Rattle.nodes.specs.Options.{text_at, text_of};
 
-use nodes::option::{OptionPart, OptionTime, OptionU32, OptionU64};
 use nodes::part::Part;
 use wire::number::put_number;
 use wire::part::part;
 use wire::text::put_text;
-use wire::time::put_time;
+use wire::time::{Time, put_time};
 
 // Writes the number, if it is there.
-pub fn put_option_u32(buf: &mut [u8], at: usize, option: OptionU32) -> usize
-    ensures { Put buf.old at (opt_write word (word_of option)) result buf.new }
+pub fn put_option_u32(buf: &mut [u8], at: usize, option: Option<u32>) -> usize
+    ensures { Put buf.old at (opt_write word option) result buf.new }
 {
     match option {
-        OptionU32::Some(number) => put_number(buf, at, number as u64),
-        OptionU32::None => at,
+        Some(number) => put_number(buf, at, number as u64),
+        None => at,
     }
 }
 
 // Writes the time, if it is there.
-pub fn put_option_time(buf: &mut [u8], at: usize, option: OptionTime) -> usize
-    ensures { Put buf.old at (opt_write moment (time_of option)) result buf.new }
+pub fn put_option_time(buf: &mut [u8], at: usize, option: Option<Time>) -> usize
+    ensures { Put buf.old at (opt_write moment option) result buf.new }
 {
     match option {
-        OptionTime::Some(time) => put_time(buf, at, time),
-        OptionTime::None => at,
+        Some(time) => put_time(buf, at, time),
+        None => at,
     }
 }
 
 // Writes 0, or 1 and the number.
-pub fn put_maybe_number(buf: &mut [u8], at: usize, option: OptionU64) -> usize
-    ensures { Put buf.old at ((maybe inodeCodec).write (number_of option)) result buf.new }
+pub fn put_maybe_number(buf: &mut [u8], at: usize, option: Option<u64>) -> usize
+    ensures { Put buf.old at ((maybe inodeCodec).write option) result buf.new }
 {
     match option {
-        OptionU64::Some(number) => {
+        Some(number) => {
             let next = put_number(buf, at, 1);
             put_number(buf, next, number)
         }
-        OptionU64::None => put_number(buf, at, 0),
+        None => put_number(buf, at, 0),
     }
 }
 
@@ -54,15 +53,15 @@ pub fn put_text_part(buf: &mut [u8], at: usize, img: &[u8], text: Part) -> usize
 }
 
 // Writes 0, or 1 and the text, a part of the image.
-pub fn put_maybe_part(buf: &mut [u8], at: usize, img: &[u8], option: OptionPart) -> usize
+pub fn put_maybe_part(buf: &mut [u8], at: usize, img: &[u8], option: Option<Part>) -> usize
     ensures { Put buf.old at ((maybe target).write (text_of img.now option)) result buf.new }
 {
     match option {
-        OptionPart::Some(text) => {
+        Some(text) => {
             let next = put_number(buf, at, 1);
             put_text_part(buf, next, img, text)
         }
-        OptionPart::None => put_number(buf, at, 0),
+        None => put_number(buf, at, 0),
     }
 }
 

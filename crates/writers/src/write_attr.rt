@@ -3,43 +3,42 @@
 ghost use Rattle.std.specs.Prelude.{◌≤◌, ◌≡◌};
 ghost use Rattle.wire.specs.Combinators.{count};
 ghost use Rattle.wire.specs.Put.{Put};
-ghost use Rattle.nodes.specs.Options.{word_of, time_of};
 ghost use Rattle.writers.specs.Writes.{part_bit, later_mask, mask_of, times_bytes, attr_bytes, meta_bytes};
 
+use nodes::part::Part;
 use crate::write::{put_option_time, put_option_u32};
 use nodes::attr::AttrDelta;
 use nodes::node::InodeMeta;
-use nodes::option::{OptionPart, OptionTime, OptionU32};
 use wire::number::put_number;
-use wire::time::put_time;
+use wire::time::{Time, put_time};
 
 // The bit that says whether a number is there.
-fn u32_bit(option: OptionU32) -> u64
-    ensures { (result ≡ count (word_of option)) × (result ≤ 1) }
+fn u32_bit(option: Option<u32>) -> u64
+    ensures { (result ≡ count option) × (result ≤ 1) }
 {
     match option {
-        OptionU32::Some(_) => 1,
-        OptionU32::None => 0,
+        Some(_) => 1,
+        None => 0,
     }
 }
 
 // The bit that says whether a time is there.
-fn time_bit(option: OptionTime) -> u64
-    ensures { (result ≡ count (time_of option)) × (result ≤ 1) }
+fn time_bit(option: Option<Time>) -> u64
+    ensures { (result ≡ count option) × (result ≤ 1) }
 {
     match option {
-        OptionTime::Some(_) => 1,
-        OptionTime::None => 0,
+        Some(_) => 1,
+        None => 0,
     }
 }
 
 // The bit that says whether a part is there.
-fn part_bit(option: OptionPart) -> u64
+fn part_bit(option: Option<Part>) -> u64
     ensures { (result ≡ part_bit option) × (result ≤ 1) }
 {
     match option {
-        OptionPart::Some(_) => 1,
-        OptionPart::None => 0,
+        Some(_) => 1,
+        None => 0,
     }
 }
 

@@ -1,8 +1,8 @@
 -- The lookup of an extended attribute, layer by layer.
 -- Assumes nothing.
+use Rattle.std.specs.Prelude.{None, Option, Some}
 use mathlib.Core.Path.{◌≡◌, refl, sym, ap, ◌∙◌, subst}
 use mathlib.Core.List.{List}
-use mathlib.Core.Option.{Option, none, some}
 use Prim.Native.Nat.{ℕ, ◌+◌, ◌-◌, ◌<◌}
 use native.Mathlib.Omega.{arith}
 use lib.ListN.{get_or}
@@ -13,17 +13,12 @@ use Rattle.wire.specs.Orders.{by_bytes}
 use Rattle.wire.specs.Maps.{get}
 use Rattle.wire.specs.Reading.{Reads, AnswersPart, part}
 use Rattle.survey.specs.declared.batch.InodeLayerStack.{InodeLayerStack}
-use Rattle.passes.specs.declared.inode.Place.{Place}
-use Rattle.passes.specs.declared.inode.Place.TheVariants as A
 use Rattle.image.specs.declared.name.Under.TheVariants as U
 use Rattle.image.specs.Meaning.{Text}
-use Rattle.passes.specs.Held.{place_of}
 use Rattle.image.specs.Places.{maybe_read}
 use Rattle.image.specs.Under.{under}
 use Rattle.rules.specs.Reads.{attribute, step_attribute}
 use Rattle.nodes.specs.declared.part.Part.{Part}
-use Rattle.nodes.specs.declared.option.OptionPart.{OptionPart}
-use Rattle.nodes.specs.declared.option.OptionPart.TheVariants as P
 use Rattle.nodes.specs.declared.attr.AttrDelta.{AttrDelta}
 use Rattle.deltas.specs.declared.delta.NodeDelta.{NodeDelta}
 use Rattle.deltas.specs.declared.delta.EntryDelta.{EntryDelta}
@@ -32,7 +27,6 @@ use Rattle.nodes.specs.declared.node.Node as M
 use Rattle.nodes.specs.Options.{text_at, text_of}
 use Rattle.nodes.specs.Listed.{list_at, ListedIf}
 use Rattle.deltas.specs.Deltas.{attr_of, entry_meant, AttrListed, fields_length}
-use Rattle.stack.specs.declared.stack.OptionNode.TheVariants as O
 use Rattle.xattrs.specs.declared.xattr.XattrChange.TheVariants as X
 use Rattle.stack.specs.Stacks.{Stacked, shown_under, shown, RecordIs, BaseIs}
 use Rattle.lookup.specs.Search.{IsList, Finds}
@@ -52,24 +46,24 @@ module _ {img : List ℕ} {s : InodeLayerStack} {i : ℕ} {e : EntryDelta} (h : 
 
   module _ {n : NodeDelta} {a : AttrDelta} (en : e ≡ E.Node n) (ea : a ≡ attr_of n) where
     -- a delta without attribute changes
-    pub at-unlisted : a.xattrs ≡ P.None → XattrAt img s name i X.Below
+    pub at-unlisted : a.xattrs ≡ None → XattrAt img s name i X.Below
     at-unlisted ex = stands ∙ rw (en, ← ea, ex)
 
-    module _ {list : Part} (ex : a.xattrs ≡ P.Some list) where
+    module _ {list : Part} (ex : a.xattrs ≡ Some list) where
       pub changes-listed : IsList img U.Change list
       changes-listed =
           let p = get_or s.deltas i 0 in
           let q = p + 1 + fields_length img e in
           let l : ListedIf img U.Change (attr_of n).xattrs q = subst (λ (x : EntryDelta). AttrListed img x q) en (g.reads.attributes p refl) in
-          (q, subst (λ (x : OptionPart). ListedIf img U.Change x q) (ap (λ (x : AttrDelta). x.xattrs) (sym ea) ∙ ex) l)
+          (q, subst (λ (x : Option Part). ListedIf img U.Change x q) (ap (λ (x : AttrDelta). x.xattrs) (sym ea) ∙ ex) l)
 
       -- "the first delta naming it decides (set or removed)"
-      pub at-unnamed : {place : Place} → Finds img U.Change list name (place_of place) → place ≡ A.Nowhere → XattrAt img s name i X.Below
+      pub at-unnamed : {place : Option ℕ} → Finds img U.Change list name place → place ≡ None → XattrAt img s name i X.Below
       at-unnamed f y =
           let o = held_none img (under U.Change).read (get by_bytes name (list_at img U.Change list)) (rw y at f) in
           stands ∙ rw (en, ← ea, ex, o)
 
-      pub at_named : (o : OptionPart) {place : Place} {p : ℕ} {next : Cursor} → Finds img U.Change list name (place_of place) → place ≡ A.At p
+      pub at_named : (o : Option Part) {place : Option ℕ} {p : ℕ} {next : Cursor} → Finds img U.Change list name place → place ≡ Some p
           → Reads img (maybe_read (text-read 0 4096)) (At p) (text_of img o) next → shown_under (attribute name) img s (i + 1) ≡ text_of img o
       at_named o {p = p} f y r =
           let v = held-some img (under U.Change).read p (get by_bytes name (list_at img U.Change list)) (rw y at f) in
@@ -78,33 +72,33 @@ module _ {img : List ℕ} {s : InodeLayerStack} {i : ℕ} {e : EntryDelta} (h : 
 -- ---- the base
 
 module _ (img : List ℕ) (s : InodeLayerStack) (name : Text) where
-  pub base-none : BaseIs img (place_of s.base) O.None → none ≡ shown_under (attribute name) img s 0
-  base-none b = sym (shown-base (attribute name) img s O.None b)
+  pub base-none : BaseIs img s.base None → None ≡ shown_under (attribute name) img s 0
+  base-none b = sym (shown-base (attribute name) img s None b)
 
-  module _ (n : M.Node) (b : BaseIs img (place_of s.base) (O.Some n)) where
+  module _ (n : M.Node) (b : BaseIs img s.base (Some n)) where
     pub attributes-listed : IsList img U.Value n.meta.xattrs
-    attributes-listed = go (place_of s.base) b
+    attributes-listed = go s.base b
       where
-        go : (p : Option ℕ) → BaseIs img p (O.Some n) → IsList img U.Value n.meta.xattrs
-        go none b = absurd b
-        go (some p) b = (_, b.reads.attributes p refl)
+        go : (p : Option ℕ) → BaseIs img p (Some n) → IsList img U.Value n.meta.xattrs
+        go None b = absurd b
+        go (Some p) b = (_, b.reads.attributes p refl)
 
-    pub base-unnamed : {place : Place} → Finds img U.Value n.meta.xattrs name (place_of place) → place ≡ A.Nowhere → none ≡ shown_under (attribute name) img s 0
-    base-unnamed f y = sym (shown-base (attribute name) img s (O.Some n) b ∙ held_none img (under U.Value).read _ (rw y at f))
+    pub base-unnamed : {place : Option ℕ} → Finds img U.Value n.meta.xattrs name place → place ≡ None → None ≡ shown_under (attribute name) img s 0
+    base-unnamed f y = sym (shown-base (attribute name) img s (Some n) b ∙ held_none img (under U.Value).read _ (rw y at f))
 
-    pub base-named : {place : Place} {p q l : ℕ} {next : Cursor} → Finds img U.Value n.meta.xattrs name (place_of place) → place ≡ A.At p
-        → AnswersPart img (text-read 0 4096) (At p) q l next → some (part img q l) ≡ shown_under (attribute name) img s 0
+    pub base-named : {place : Option ℕ} {p q l : ℕ} {next : Cursor} → Finds img U.Value n.meta.xattrs name place → place ≡ Some p
+        → AnswersPart img (text-read 0 4096) (At p) q l next → Some (part img q l) ≡ shown_under (attribute name) img s 0
     base-named {p = p} f y t =
         let o = held-some img (under U.Value).read p (get by_bytes name (list_at img U.Value n.meta.xattrs)) (rw y at f) in
-        rw (read_same o.3 t.reads) (sym (shown-base (attribute name) img s (O.Some n) b ∙ o.2))
+        rw (read_same o.3 t.reads) (sym (shown-base (attribute name) img s (Some n) b ∙ o.2))
 
 -- ---- the walk from the top
 
 module _ {img : List ℕ} {s : InodeLayerStack} (name : Text) {left : ℕ} (w : Walked (attribute name) img s left) (h : 0 < left) where
-  pub walk-set : (p : Part) → XattrAt img s name (left - 1) (X.Set p) → some (text_at img p) ≡ shown (attribute name) img s
+  pub walk-set : (p : Part) → XattrAt img s name (left - 1) (X.Set p) → Some (text_at img p) ≡ shown (attribute name) img s
   walk-set p e = sym (walk_top (attribute name) w h ∙ e)
 
-  pub walk-removed : XattrAt img s name (left - 1) X.Removed → none ≡ shown (attribute name) img s
+  pub walk-removed : XattrAt img s name (left - 1) X.Removed → None ≡ shown (attribute name) img s
   walk-removed e = sym (walk_top (attribute name) w h ∙ e)
 
   pub walk-below : XattrAt img s name (left - 1) X.Below → Walked (attribute name) img s (left - 1)

@@ -12,11 +12,10 @@ use deltas::delta::{EntryDelta, attr_delta};
 use image::name::Under;
 use layers::answer::YesNo;
 use lookup::search::find_name;
-use nodes::option::{OptionPart, read_maybe_text};
+use nodes::option::read_maybe_text;
 use nodes::part::Part;
-use passes::inode::Place;
 use stack::name::open_named;
-use stack::stack::{OptionNode, base_node, record_at};
+use stack::stack::{base_node, record_at};
 use survey::batch::InodeLayerStack;
 use wire::cursor::Cursor;
 use wire::part::part;
@@ -41,8 +40,8 @@ pub fn get_xattr<'a>(img: &'a [u8], ino: u64, name: &[u8]) -> &'a [u8]
     let stack = opened.stack;
     let value = xattr_in(img, stack, name);
     match value {
-        OptionPart::Some(text) => part(img, text.start, text.length),
-        OptionPart::None => part(img, 0, 0),
+        Some(text) => part(img, text.start, text.length),
+        None => part(img, 0, 0),
     }
 }
 
@@ -58,21 +57,21 @@ pub fn has_xattr(img: &[u8], ino: u64, name: &[u8]) -> YesNo
     let stack = opened.stack;
     let value = xattr_in(img, stack, name);
     match value {
-        OptionPart::Some(_) => YesNo::Yes,
-        OptionPart::None => YesNo::No,
+        Some(_) => YesNo::Yes,
+        None => YesNo::No,
     }
 }
 
 // From the top: the first record that names the attribute decides, then the base.
-pub fn xattr_in(img: &[u8], stack: InodeLayerStack, name: &[u8]) -> OptionPart
+pub fn xattr_in(img: &[u8], stack: InodeLayerStack, name: &[u8]) -> Option<Part>
     requires { Stacked img.now stack }
     ensures { textMeant img.now result ≡ shown (attribute name.now) img.now stack }
 {
     for i in (0..stack.count).rev() {
         let change = xattr_at(img, stack, i, name);
         match change {
-            XattrChange::Set(value) => return OptionPart::Some(value),
-            XattrChange::Removed => return OptionPart::None,
+            XattrChange::Set(value) => return Some(value),
+            XattrChange::Removed => return None,
             XattrChange::Below => {}
         }
     }
@@ -90,43 +89,43 @@ fn xattr_at(img: &[u8], stack: InodeLayerStack, i: usize, name: &[u8]) -> XattrC
     };
     let fields = attr_delta(delta);
     let xattrs = fields.xattrs;
-    let OptionPart::Some(list) = xattrs else {
+    let Some(list) = xattrs else {
         return XattrChange::Below;
     };
     let place = find_name(img, list, Under::Change, name);
     match place {
-        Place::At(at) => {
+        Some(at) => {
             let change = read_maybe_text(img, Cursor::At(at), 4096);
             let option = change.option;
             match option {
-                OptionPart::Some(value) => XattrChange::Set(value),
-                OptionPart::None => XattrChange::Removed,
+                Some(value) => XattrChange::Set(value),
+                None => XattrChange::Removed,
             }
         }
-        Place::Nowhere => XattrChange::Below,
+        None => XattrChange::Below,
     }
 }
 
 // The value in the base.
-fn base_xattr(img: &[u8], stack: InodeLayerStack, name: &[u8]) -> OptionPart
+fn base_xattr(img: &[u8], stack: InodeLayerStack, name: &[u8]) -> Option<Part>
     requires { Stacked img.now stack }
     ensures { textMeant img.now result ≡ shown_under (attribute name.now) img.now stack 0 }
 {
     let base = base_node(img, stack);
-    let OptionNode::Some(node) = base else {
-        return OptionPart::None;
+    let Some(node) = base else {
+        return None;
     };
     let meta = node.meta;
     let list = meta.xattrs;
     let place = find_name(img, list, Under::Value, name);
     match place {
-        Place::At(at) => {
+        Some(at) => {
             let text = read_text(img, Cursor::At(at), 0, 4096);
-            OptionPart::Some(Part {
+            Some(Part {
                 start: text.start,
                 length: text.length,
             })
         }
-        Place::Nowhere => OptionPart::None,
+        None => None,
     }
 }

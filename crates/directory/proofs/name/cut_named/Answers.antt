@@ -6,7 +6,7 @@ use Prim.Native.Nat.{ℕ}
 use Rattle.wire.specs.Order.{reversed, cmp-reversed}
 use Rattle.wire.specs.Orders.{by_bytes}
 use Rattle.wire.specs.Reading.{part}
-use Rattle.wire.specs.declared.order.Ordering.{Ordering}
+use Rattle.std.specs.declared.cmp.Ordering.{Ordering}
 use Rattle.image.specs.FieldLayout.{name as nameText}
 use Rattle.image.specs.Under.{under}
 use Rattle.change.proofs.Cutting.{cut-start, cut-over, cut-found, cut_on, cut-end}

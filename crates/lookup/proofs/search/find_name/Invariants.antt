@@ -1,4 +1,4 @@
-use mathlib.Core.Option.{Option}
+use Rattle.std.specs.Prelude.{Option}
 use Prim.Native.Nat.{◌-◌}
 use Rattle.image.specs.Under.{UnderName}
 use Rattle.lookup.proofs.Searching.{Seeks}
