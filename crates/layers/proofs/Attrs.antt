@@ -9,7 +9,9 @@ use native.Mathlib.Omega.{arith}
 use lib.ListN.{get_or}
 use Rattle.survey.specs.declared.batch.InodeLayerStack.{InodeLayerStack}
 use Rattle.rules.specs.Initial.{usual}
-use Rattle.rules.specs.FileAttrs.{FileAttr, attributes, base_attr, step_attr}
+use Rattle.rules.specs.FileAttrs.{attributes, base_attr, step_attr}
+use Rattle.rules.specs.FileAttrs as R
+use Rattle.attrs.specs.declared.node.FileAttr.{FileAttr}
 use Rattle.nodes.specs.declared.node.NodeKind.{NodeKind}
 use Rattle.nodes.specs.declared.node.NodeKind.TheVariants as K
 use Rattle.deltas.specs.declared.delta.NodeDelta.{NodeDelta}
@@ -70,7 +72,7 @@ module _ {ino : ℕ} {img : List ℕ} {s : InodeLayerStack} where
       → ((m : List ℕ) → EntryTargetIn m e → attr_if x ≡ step_attr usual ino (entry_meant m e) (attr_if a)) → Risen ino img s (i + 1) x
   rise-on {i} {e} h w l g f = record {
     low = omega (arith, l);
-    same = f img (entry_in img e g.end g.reads.lists) ∙ ap (λ (z : Option FileAttr). step_attr usual ino (entry_meant img e) z) w.same ∙ sym (shown-more h (attributes usual ino) i l g);
+    same = f img (entry_in img e g.end g.reads.lists) ∙ ap (λ (z : Option R.FileAttr). step_attr usual ino (entry_meant img e) z) w.same ∙ sym (shown-more h (attributes usual ino) i l g);
   }
 
   pub rise-end : {i : ℕ} {a : Option FileAttr} → Risen ino img s i a → s.count ≤ i → attr_if a ≡ shown (attributes usual ino) img s

@@ -1,7 +1,8 @@
 -- Attributes that a stack shows, or none.
 use Rattle.nodes.specs.declared.node.Node.{Node}
 use Rattle.std.specs.Prelude.{List, ℕ, None, Option, Some}
-use Rattle.rules.specs.FileAttrs.{FileAttr}
+use Rattle.rules.specs.FileAttrs as R
+use Rattle.attrs.specs.declared.node.FileAttr.{FileAttr}
 use Rattle.deltas.specs.declared.delta.EntryDelta.{EntryDelta}
 use Rattle.deltas.specs.declared.delta.EntryDelta.TheVariants as E
 use Rattle.attrs.specs.Meant.{attr_meant}
@@ -17,6 +18,6 @@ BaseLinkIn img (Some n) = LinkIn img n.kind
 BaseLinkIn img None = Unit {0}
 
 -- no attributes, or these
-abbrev pub attr_if : Option FileAttr → Option FileAttr
+abbrev pub attr_if : Option FileAttr → Option R.FileAttr
 attr_if (Some a) = Some (attr_meant a)
 attr_if None = None

@@ -131,7 +131,7 @@ disjoint : {A B : Type 0} (a : Option A) (r : Option B) (x : Option A) → (IsSo
     → meet (λ u o. None) r (meet (λ i o. Some i) a x) ≡ meet (λ i o. Some i) a (meet (λ u o. None) r x)
 disjoint None r x n = refl
 disjoint (Some a) None x n = refl
-disjoint (Some a) (Some r) x n = absurd (n tt tt)
+disjoint (Some a) (Some r) x n = absurd (n refl refl)
 
 pub child-law : (initial : Initial) (k : Text) → Law initial (child k)
 child-law initial k = lawful initial (child k) (λ n. refl)
@@ -191,8 +191,12 @@ or-given : {A : Type 0} (o : Option A) (x : A) → or_else o (Some x) ≡ Some (
 or-given None x = refl
 or-given (Some a) x = refl
 
+-- nothing is not something
+pub not-some : false ≡ true → ⊥
+not-some h = cc
+
 or_some : {A : Type 0} (o : Option A) (x y : Option A) → IsSome o → or_else o x ≡ or_else o y
-or_some None x y h = absurd h
+or_some None x y h = absurd (not-some h)
 or_some (Some a) x y h = refl
 
 pub text-law : (initial : Initial) → Law initial link_text

@@ -16,7 +16,7 @@ use Rattle.rules.specs.Reads.{base_type, or_else}
 use Rattle.rules.specs.Changes.{DirectoryChange, no_fields, on_directory, adding, removing, setting_parent, map_if, merge_changes, merge_fields, bare_change, updated}
 use Rattle.rules.specs.Table.{NodeChange, naming, parenting, change_node, update_node}
 use Rattle.rules.specs.Orderly.{Suits, Disjoint, LinkMode, Tidy, Right, ModeFor}
-use Rattle.rules.proofs.Laws.{type-law, fold_same, fold-none, fold-tombstone, kind-first, added-removed, shape}
+use Rattle.rules.proofs.Laws.{type-law, fold_same, fold-none, fold-tombstone, kind-first, added-removed, not-some, shape}
 
 -- what the live record, if any, needs of the type beneath
 abbrev pub Right? : Option Record → Option Kind → Type 0
@@ -44,7 +44,7 @@ empty-entries : (es : Entries) → add_all (empty by_bytes) (remove_all (empty b
 empty-entries es = map-ext by_bytes _ _ (λ k. simp (get-merge, get-empty))
 
 none-added : (r : Names) → Disjoint (empty by_bytes) r
-none-added r k h i = rw get-empty at h
+none-added r k h i = not-some (rw get-empty at h)
 
 -- a change of a delta is a change of the directory that it is applied to
 pub record Sound (D : DirectoryChange) (N : NodeChange) : Type 0 where
@@ -157,7 +157,7 @@ loses {A} {B} k o a r n j h i = go (by_bytes.cmp j k) (rw get-put at h) (rw get-
   where
     go : (d : Ordering) → IsSome (choose d o (get by_bytes j a)) → IsSome (choose d None (get by_bytes j r)) → ⊥
     go Less h i = n j h i
-    go Equal h i = i
+    go Equal h i = absurd (not-some i)
     go Greater h i = n j h i
 
 pub add-sound : (k : Text) (c : ℕ) (t : Time) → Sound (adding k c t) (naming k (Some c) t)
@@ -183,7 +183,7 @@ parent-sound q = record {
   parents = λ p q. refl;
   entries = λ a r es. refl;
   metas = λ f m. refl;
-  named = λ p h. tt;
+  named = λ p h. refl;
   disjoint = λ a r n. n;
 }
 

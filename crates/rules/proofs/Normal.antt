@@ -16,7 +16,7 @@ use Rattle.rules.specs.Changes.{map_if}
 use Rattle.rules.specs.Normalise.{leads_to, less_added, less_removed, normal_directory, normal_change, normal_record, normal_layer}
 use Rattle.rules.specs.Queue.{fold_all}
 use Rattle.rules.specs.Orderly.{Disjoint, Right, OrderlyStack, OrderlyLayers}
-use Rattle.rules.proofs.Laws.{child-law, fold_same, fold-none, added-removed}
+use Rattle.rules.proofs.Laws.{child-law, fold_same, fold-none, added-removed, not-some}
 use Rattle.rules.proofs.Folded.{read-folded, type-folded}
 use Rattle.rules.proofs.Layers.{get-table, stack-append, all_append}
 use Rattle.rules.proofs.Local.{Right?, only-directory}
@@ -31,7 +31,7 @@ at_name None None None n = refl
 at_name None None (Some j) n = refl
 at_name None (Some u) None n = refl
 at_name None (Some u) (Some j) n = refl
-at_name (Some c) (Some u) z n = absurd (n tt tt)
+at_name (Some c) (Some u) z n = absurd (n refl refl)
 at_name (Some c) None None n = refl
 at_name (Some c) None (Some j) n = go (eqb j c) refl
   where
@@ -54,13 +54,13 @@ none-entries a r = map-ext by_bytes _ _ (λ k. simp (added-removed, get-empty) (
 -- a kept row is a row
 sifted : {A : Type 0} (p : A → Bool) (o : Option A) → IsSome (sift p o) → IsSome o
 sifted p None h = h
-sifted p (Some a) h = tt
+sifted p (Some a) h = refl
 
 less-disjoint : (below : Text → Option ℕ) (a : Entries) (r : Names) → Disjoint a r → Disjoint (less_added below a) (less_removed below r)
 less-disjoint below a r n k h i = n k (sifted _ (get by_bytes k a) (rw get-keep at h)) (sifted _ (get by_bytes k r) (rw get-keep at i))
 
 none-removed : (a : Entries) → Disjoint a (empty by_bytes)
-none-removed a k x y = rw get-empty at y
+none-removed a k x y = not-some (rw get-empty at y)
 
 normal-kind : (below : Text → Option ℕ) (x y : Option Kind) (r : Record) → type.step (normal_record below x r) y ≡ type.step r y
 normal-kind below x y tombstone = refl

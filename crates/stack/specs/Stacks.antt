@@ -76,13 +76,13 @@ pub record NodeIs (img : List ℕ) (p : ℕ) (n : N.Node) : Type 0 where
   pub reads : ReadsNode img (C.At p) n (C.At end)
 
 -- the node at a place; no place, no node
-abbrev pub BaseIs : List ℕ → Option ℕ → Option Node → Type 0
+abbrev pub BaseIs : List ℕ → Option ℕ → Option N.Node → Type 0
 BaseIs img None None = Unit {0}
 BaseIs img None (Some n) = ⊥
 BaseIs img (Some p) None = ⊥
 BaseIs img (Some p) (Some n) = NodeIs img p n
 
-abbrev pub node_meant_if : List ℕ → Option Node → Option Node
+abbrev pub node_meant_if : List ℕ → Option N.Node → Option Node
 node_meant_if img None = None
 node_meant_if img (Some n) = Some (node_meant img n)
 

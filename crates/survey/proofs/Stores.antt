@@ -219,7 +219,7 @@ module _ {img : List ℕ} {sought : ℕ} {c1 c3 c4 : Cursor} {place top : Option
     batches = ends-batches g.ends;
     live = l.ends;
     node = λ q e.
-        ap (p.base ∙ g.base_kept (at-live e).0 (at-live e).1) ∙ b.found ∙ found-at (place_in by_number inode node img sought (At 0)) (at-batches e).1;
+        p.base ∙ g.base_kept (at-live e).0 (at-live e).1 ∙ b.found ∙ found-at (place_in by_number inode node img sought (At 0)) (at-batches e).1;
     deltas = λ q e.
         p.places ∙ (λ i. g.places (at-live e).0 (at-live e).1 i ++ list_if ((l.found ∙ found-at (place_in by_number inode layer_record img sought queue.next) (at_tail e).1) i));
   }

@@ -132,7 +132,7 @@ module _ {img : List ℕ} {s : InodeLayerStack} {i : ℕ} {e : EntryDelta} (h : 
 -- ---- the base
 
 module _ (img : List ℕ) (s : InodeLayerStack) (name : Text) where
-  base-says : (r : Said) (o : Option Node) → BaseIs img s.base o → r ≡ base_says name (node_meant_if img o) → SaysBase img s name r
+  base-says : (r : Said) (o : Option N.Node) → BaseIs img s.base o → r ≡ base_says name (node_meant_if img o) → SaysBase img s name r
   base-says r o b d = record {
     itself = d ∙ sym (shown-base (says name) img s o b);
     looked = shown-base (child name) img s o b ∙ base-over name (node_meant_if img o) ∙ ap (λ (x : Said). over x None) (sym d);

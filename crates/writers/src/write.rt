@@ -36,13 +36,11 @@ pub fn put_option_time(buf: &mut [u8], at: usize, option: Option<Time>) -> usize
 pub fn put_maybe_number(buf: &mut [u8], at: usize, option: Option<u64>) -> usize
     ensures { Put buf.old at ((maybe inodeCodec).write option) result buf.new }
 {
-    match option {
-        Some(number) => {
-            let next = put_number(buf, at, 1);
-            put_number(buf, next, number)
-        }
-        None => put_number(buf, at, 0),
-    }
+    let Some(number) = option else {
+        return put_number(buf, at, 0);
+    };
+    let next = put_number(buf, at, 1);
+    put_number(buf, next, number)
 }
 
 // Writes a text that is a part of the image.

@@ -14,8 +14,8 @@ returns-in_default-node c = at_other c.requires c.if-layer-eq0.false c.record_at
 pub find_name-place-requires : goal.find_name-place-requires
 find_name-place-requires c = removed-listed c.requires c.if-layer-eq0.false c.record_at-delta.ensures c.args.name.now c.in-Node.is c.in-Directory.is
 
-pub returns-in-At : goal.returns-in-At
-returns-in-At c = at-removed c.requires c.if-layer-eq0.false c.record_at-delta.ensures c.args.name.now c.in-Node.is c.in-Directory.is c.find_name-place.ensures c.in-At.is
+pub returns-in-Some : goal.returns-in-Some
+returns-in-Some c = at-removed c.requires c.if-layer-eq0.false c.record_at-delta.ensures c.args.name.now c.in-Node.is c.in-Directory.is c.find_name-place.ensures c.in-Some.is
 
-pub returns-in-Nowhere : goal.returns-in-Nowhere
-returns-in-Nowhere c = at_added c.requires c.if-layer-eq0.false c.record_at-delta.ensures c.args.name.now c.in-Node.is c.in-Directory.is c.find_name-place.ensures c.in-Nowhere.is
+pub returns-in-None : goal.returns-in-None
+returns-in-None c = at_added c.requires c.if-layer-eq0.false c.record_at-delta.ensures c.args.name.now c.in-Node.is c.in-Directory.is c.find_name-place.ensures c.in-None.is

@@ -14,8 +14,8 @@ find_name-place-requires c = removed-listed c.requires c.record_at-entry.ensures
 pub entry_in-requires : goal.entry_in-requires
 entry_in-requires c = added-listed c.requires c.record_at-entry.ensures c.args.name.now c.in-Node.is c.in-Directory.is
 
-pub returns-in-At : goal.returns-in-At
-returns-in-At c = says-removed c.requires c.record_at-entry.ensures c.args.name.now c.in-Node.is c.in-Directory.is c.find_name-place.ensures c.in-At.is
+pub returns-in-Some : goal.returns-in-Some
+returns-in-Some c = says-removed c.requires c.record_at-entry.ensures c.args.name.now c.in-Node.is c.in-Directory.is c.find_name-place.ensures c.in-Some.is
 
-pub returns-in-Nowhere : goal.returns-in-Nowhere
-returns-in-Nowhere c = says-added c.requires c.record_at-entry.ensures c.args.name.now c.in-Node.is c.in-Directory.is c.find_name-place.ensures c.in-Nowhere.is c.entry_in.ensures
+pub returns-in-None : goal.returns-in-None
+returns-in-None c = says-added c.requires c.record_at-entry.ensures c.args.name.now c.in-Node.is c.in-Directory.is c.find_name-place.ensures c.in-None.is c.entry_in.ensures

@@ -7,8 +7,8 @@ returns-in_default c = base-none c.args.img.now c.args.stack c.args.name.now (rw
 pub find_name-place-requires : goal.find_name-place-requires
 find_name-place-requires c = attributes-listed c.args.img.now c.args.stack c.args.name.now _ (rw c.in-Some.is at c.base_node-base.ensures)
 
-pub returns-in-At : goal.returns-in-At
-returns-in-At c = base-named c.args.img.now c.args.stack c.args.name.now _ (rw c.in-Some.is at c.base_node-base.ensures) c.find_name-place.ensures c.in-At.is c.read_text-text.ensures
+pub returns-in-Some-place : goal.returns-in-Some-place
+returns-in-Some-place c = base-named c.args.img.now c.args.stack c.args.name.now _ (rw c.in-Some.is at c.base_node-base.ensures) c.find_name-place.ensures c.in-Some-place.is c.read_text-text.ensures
 
-pub returns-in-Nowhere : goal.returns-in-Nowhere
-returns-in-Nowhere c = base-unnamed c.args.img.now c.args.stack c.args.name.now _ (rw c.in-Some.is at c.base_node-base.ensures) c.find_name-place.ensures c.in-Nowhere.is
+pub returns-in-None : goal.returns-in-None
+returns-in-None c = base-unnamed c.args.img.now c.args.stack c.args.name.now _ (rw c.in-Some.is at c.base_node-base.ensures) c.find_name-place.ensures c.in-None.is

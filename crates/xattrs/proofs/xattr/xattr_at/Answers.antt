@@ -11,10 +11,10 @@ pub find_name-place-requires : goal.find_name-place-requires
 find_name-place-requires c = changes-listed c.requires c.record_at-entry.ensures c.args.name.now c.in-Node.is c.attr_delta-fields.ensures c.in-Some.is
 
 pub returns-in-Some-option : goal.returns-in-Some-option
-returns-in-Some-option c = rw c.in-Some-option.is at (at_named c.requires c.record_at-entry.ensures c.args.name.now c.in-Node.is c.attr_delta-fields.ensures c.in-Some.is c.read_maybe_text-change.result.option c.find_name-place.ensures c.in-At.is c.read_maybe_text-change.ensures.reads)
+returns-in-Some-option c = rw c.in-Some-option.is at (at_named c.requires c.record_at-entry.ensures c.args.name.now c.in-Node.is c.attr_delta-fields.ensures c.in-Some.is c.read_maybe_text-change.result.option c.find_name-place.ensures c.in-Some-place.is c.read_maybe_text-change.ensures.reads)
+
+pub returns-in-None-option : goal.returns-in-None-option
+returns-in-None-option c = rw c.in-None-option.is at (at_named c.requires c.record_at-entry.ensures c.args.name.now c.in-Node.is c.attr_delta-fields.ensures c.in-Some.is c.read_maybe_text-change.result.option c.find_name-place.ensures c.in-Some-place.is c.read_maybe_text-change.ensures.reads)
 
 pub returns-in-None : goal.returns-in-None
-returns-in-None c = rw c.in-None.is at (at_named c.requires c.record_at-entry.ensures c.args.name.now c.in-Node.is c.attr_delta-fields.ensures c.in-Some.is c.read_maybe_text-change.result.option c.find_name-place.ensures c.in-At.is c.read_maybe_text-change.ensures.reads)
-
-pub returns-in-Nowhere : goal.returns-in-Nowhere
-returns-in-Nowhere c = at-unnamed c.requires c.record_at-entry.ensures c.args.name.now c.in-Node.is c.attr_delta-fields.ensures c.in-Some.is c.find_name-place.ensures c.in-Nowhere.is
+returns-in-None c = at-unnamed c.requires c.record_at-entry.ensures c.args.name.now c.in-Node.is c.attr_delta-fields.ensures c.in-Some.is c.find_name-place.ensures c.in-None.is
