@@ -9,7 +9,7 @@ use Rattle.std.proofs.Math.Option.{Option, none, some}
 use Rattle.wire.specs.Parse.{Parsed, got, bind, check, never-got, bind_inv, check_inv}
 use Rattle.wire.specs.Codec.{Codec, OneForm, Bytes}
 use Rattle.wire.specs.Combinators.{nothing, all_bytes, bytes, bytes_read, seq, seq_read, ◌then◌, via, via_read, restated, only, only_read, tagged, tagged_read, count, opt-read, opt_write, opt_fits, optional}
-use Rattle.wire.specs.declared.cursor.Fault.TheVariants.{Ended, Malformed}
+use Rattle.wire.specs.declared.fault.Fault.TheVariants.{Ended, Malformed}
 
 -- nothing
 pub nothing-forth : (s : List ℕ) (a : Unit {0}) (r : List ℕ) → got tt s ≡ got a r → (s ≡ [] ++ r) × Unit {0}

@@ -8,7 +8,7 @@ use Rattle.std.proofs.Math.Option.{Option, none, some}
 use Rattle.std.proofs.lemmas.List.{take-append-le, drop-append-le}
 use Rattle.wire.specs.Parse.{Parsed, fault, got, bind, check, Extends, bind-extends, check-extends}
 use Rattle.wire.specs.Codec.{Codec, Bytes, plain-append}
-use Rattle.wire.specs.declared.cursor.Fault.TheVariants.{Ended, Malformed}
+use Rattle.wire.specs.declared.fault.Fault.TheVariants.{Ended, Malformed}
 
 -- nothing
 abbrev pub nothing : Codec (Unit {0})

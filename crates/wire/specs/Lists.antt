@@ -11,7 +11,7 @@ use Rattle.wire.specs.Number.{edge, number_to}
 use Rattle.wire.specs.Order.{Order}
 use Rattle.wire.specs.Rows.{Under, Rising}
 use Rattle.wire.specs.Maps.{Map, as_map, as_map-rows}
-use Rattle.wire.specs.declared.cursor.Fault.TheVariants.{Malformed}
+use Rattle.wire.specs.declared.fault.Fault.TheVariants.{Malformed}
 use Rattle.wire.specs.declared.order.Ordering.{Ordering}
 use Rattle.wire.specs.declared.order.Ordering.TheVariants.{Less, Equal, Greater}
 
