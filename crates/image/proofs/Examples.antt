@@ -4,7 +4,7 @@ use mathlib.Core.Path.{◌≡◌, refl}
 use mathlib.Core.List.{List, [], ◌∷◌}
 use mathlib.Core.Option.{some}
 use native.Mathlib.Omega.{arith}
-use Rattle.wire.specs.declared.cursor.Fault.TheVariants.{Ended}
+use Rattle.wire.specs.declared.fault.Fault.TheVariants.{Ended}
 use Rattle.wire.specs.Parse.{fault, got}
 use Rattle.wire.specs.Number.{number_bytes, groups}
 use Rattle.wire.specs.Time.{time, epoch}

@@ -9,8 +9,7 @@ use lib.ListN.{length, drop, length-append, length-drop}
 use lib.Seq.{drop-drop, drop-append_seam}
 use Rattle.wire.specs.declared.order.Ordering.{Ordering}
 use Rattle.wire.specs.declared.order.Ordering.TheVariants.{Less, Equal, Greater}
-use Rattle.wire.specs.declared.cursor.Cursor.TheVariants.{At}
-use Rattle.wire.specs.declared.cursor.Fault.TheVariants.{Malformed}
+use Rattle.wire.specs.declared.fault.Fault.TheVariants.{Malformed}
 use Rattle.wire.specs.Parse.{Parsed, got, bind, check, never-got, bind_inv, check_inv}
 use Rattle.wire.specs.Codec.{Codec, OneForm}
 use Rattle.wire.specs.Combinators.{only}
@@ -113,14 +112,14 @@ module _ {K A : Type 0} (O : Order K) (key : Codec K) (value : Codec A) (img : L
 
     -- the place of a key in a whole list holds what its map has under it
     pub list-holds : (n : ℕ) {m : Map O A} {r : List ℕ} → n ≤ length img → (rising O key value last_count refl).read (drop n img) ≡ got m r
-        → Holds img value.read (place_in O key value img k (At n)) (get O k m)
+        → Holds img value.read (place_in O key value img k n) (get O k m)
     unfolding rising-read get
     list-holds n {m} {r} h d =
         let i = bind_inv ((rows O key value last_count refl).read (drop n img)) (λ l t. mapped O key value last_count refl (as_map O l) t) d in
         let j = bind_inv (number_read last_count (drop n img)) (λ c t. rows_from O key value c none t) i.2 in
         let e : m.rows ≡ i.0 = rows-as_map O i.0 m (mapped-is (as_map O i.0) i.1 i.3) in
         let u = suffix-rest (number_to last_count refl) (number_to-one last_count refl) (suffix-drop img n h) j.2 in
-        let p : place_in O key value img k (At n) ≡ place_under O key value (length img) k j.0 j.1 =
+        let p : place_in O key value img k n ≡ place_under O key value (length img) k j.0 j.1 =
         ap (λ (o : Parsed ℕ). if_read o (λ c t. place_under O key value (length img) k c t)) j.2 in
         let h = rows-hold j.0 none j.1 u j.3 in
         subst (λ (o : Option ℕ). Holds img value.read o (lookup O k m.rows)) (sym p)

@@ -44,8 +44,11 @@ pub read-end : {A : Type 0} {img : List ℕ} {a : A} {m : ℕ} → m ≤ length 
 read-end w = record { same = refl; within = w }
 
 -- what was read is at most what it may be
-pub number-most : {img : List ℕ} {most at n m : ℕ} → Reads img (number_read most) at (Ok (n, m)) → n ≤ most
-number-most {img} {most} {at} {n} {m} h = (number-forth most (drop at img) n (drop m img) h.same).1
+pub number-most : {img : List ℕ} {most at n m : ℕ} {o : Result (ℕ × ℕ) Fault} → Reads img (number_read most) at o → o ≡ Ok (n, m) → n ≤ most
+number-most {img} {most} {at} {n} {m} h d = (number-forth most (drop at img) n (drop m img) (rw d at h).same).1
+
+pub read-in : {A : Type 0} {img : List ℕ} {p : List ℕ → Parsed A} {at : ℕ} {a : A} {m : ℕ} {o : Result (A × ℕ) Fault} → Reads img p at o → o ≡ Ok (a, m) → m ≤ length img
+read-in h d = (rw d at h).within
 
 -- ---- a time
 
@@ -68,7 +71,7 @@ module _ {img : List ℕ} {at : ℕ} {o : Result (ℕ × ℕ) Fault} (h : Reads 
         let l = rw c at k in
         rw e (read-then _ (read-then _ (read-then _ g (read-end g.within)) (read-then _ l (read-end l.within))) (read-end l.within))
 
-pub ruleset times = (time-stop, time-half, time-whole, handed)
+pub ruleset times = (time-stop, time-half, time-whole, number-most, handed)
 
 -- ---- a text, from its length
 

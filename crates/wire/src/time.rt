@@ -9,7 +9,8 @@ ghost use Rattle.wire.specs.Put.{Put};
 use crate::fault::Fault;
 use crate::number::{put_number, read_number};
 
-const LAST_NANO: u64 = 999_999_999;
+// The largest number of nanoseconds.
+pub const LAST_NANO: u64 = 999_999_999;
 
 #[derive(Clone, Copy, PartialEq, Eq)]
 pub struct Time {
