@@ -12,7 +12,7 @@ use Rattle.wire.specs.Combinators.{◌then◌}
 use Rattle.wire.specs.Number.{number_read}
 use Rattle.wire.specs.Lists.{last_count}
 use Rattle.wire.specs.Reading.{Reads}
-use Rattle.wire.proofs.Readers.{read-then, read-stop, read-end}
+use Rattle.wire.proofs.Readers.{read-then, read-stop, read-end, handed}
 use Rattle.image.specs.KindLayout.{kind_at, kind, code_at, code}
 use Rattle.image.specs.NodeLayout.{meta, body_part, node, node_of}
 use Rattle.image.specs.RecordLayout.{fields, change_part, code_part, record_of, layer_record}
@@ -45,6 +45,8 @@ module _ {img : List ℕ} {at : ℕ} {o : Result (ℕ × ℕ) Fault} (h : Reads 
     unfolding kind node
     passes-node c b =
         ends-made node_of (ends-chosen _ (reads-coded 6 kind_at (rw d at h)) refl (ends-made (λ p. (kind_at n, p)) (ends-then (body_part (kind_at n)).read (λ a b. (a, b)) m c b)))
+
+pub ruleset passes_node = (passes-no_kind, passes-no_meta, passes-node, handed)
 
 -- a pipe and a socket have nothing of their own
 pub passes-nothing : {img : List ℕ} {at : ℕ} (n : ℕ) → (n ≡ 0 → ⊥) → (n ≡ 1 → ⊥) → (n ≡ 2 → ⊥) → (n ≡ 4 → ⊥) → (n ≡ 5 → ⊥) → at ≤ length img
@@ -83,6 +85,8 @@ module _ {img : List ℕ} {at : ℕ} {o : Result (ℕ × ℕ) Fault} (h : Reads 
 
       pub passes-delta : {r : Result ℕ Fault} {change : ℕ} → u ≡ Ok change → Ends img (change_part (kind_at (n - 1))).read change r → Ends img layer_record.read at r
       passes-delta c b = coded (delta n z (ends-then (change_part (kind_at (n - 1))).read (λ a b. (a, b)) m c b))
+
+pub ruleset passes_record = (passes-no_code, passes-tombstone, passes-no_fields, passes-delta, handed)
 
 pub passes-device : {img : List ℕ} {at : ℕ} {r : Result ℕ Fault} (n : ℕ) → (n ≡ 0 → ⊥) → (n ≡ 1 → ⊥) → (n ≡ 2 → ⊥) → Ends img (number_read last_count) at r
     → Ends img (change_part (kind_at n)).read at r
