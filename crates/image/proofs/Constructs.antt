@@ -17,7 +17,7 @@ use Rattle.image.specs.KindLayout.{kind_at, kind, code_at, code}
 use Rattle.image.specs.NodeLayout.{meta, body_part, node, node_of}
 use Rattle.image.specs.RecordLayout.{fields, change_part, code_part, record_of, layer_record}
 use Rattle.image.specs.Places.{Ends}
-use Rattle.image.proofs.Passing.{ends-read, ends-chosen, ends-unchosen, ends-made, ends-then, ends-stop}
+use Rattle.image.proofs.Passing.{ends-chosen, ends-unchosen, ends-made, ends-then, ends-stop}
 
 -- a number that stands for a value
 pub reads-coded : {A : Type 0} {img : List ℕ} {at n m : ℕ} (most : ℕ) (of : ℕ → A) → Reads img (number_read most) at (Ok (n, m))

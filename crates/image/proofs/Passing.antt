@@ -12,7 +12,7 @@ use lib.Dec.{leb}
 use lib.ListN.{length, drop}
 use Rattle.wire.specs.declared.fault.Fault.{Fault}
 use Rattle.wire.specs.declared.fault.Fault.TheVariants.{Malformed}
-use Rattle.wire.specs.Parse.{Parsed, fault, got, bind, check, never-got}
+use Rattle.wire.specs.Parse.{Parsed, fault, got, bind, never-got}
 use Rattle.wire.specs.Codec.{Codec, OneForm}
 use Rattle.wire.specs.Combinators.{only, opt-read}
 use Rattle.wire.specs.Number.{edge, number_read}

@@ -1,5 +1,5 @@
 -- Where the fields of an image stand: what the readers that pass over a construct promise.
-use Rattle.std.specs.Prelude.{◌≡◌, ◌≤◌, Bool, true, false, Result, Ok, Err, Some, None, List, [], ◌∷◌, ℕ, zero, suc, ◌-◌, length, drop}
+use Rattle.std.specs.Prelude.{◌≡◌, ◌≤◌, Result, Ok, Err, Some, None, List, [], ◌∷◌, ℕ, zero, suc, ◌-◌, length, drop}
 use Rattle.std.proofs.Math.Option.{Option, none, some}
 use Rattle.std.specs.Prelude.{Option as Maybe}
 use Rattle.wire.specs.declared.fault.Fault.{Fault}

@@ -28,7 +28,7 @@ use Rattle.wire.specs.Reading.{Reads}
 use Rattle.image.specs.FieldLayout.{inode}
 use Rattle.passes.specs.declared.inode.Held.{Held}
 use Rattle.passes.specs.Held.{held, place_of, Finds, FindsRows}
-use Rattle.image.specs.Places.{Ends, place_under, place_in}
+use Rattle.image.specs.Places.{Ends, place_under}
 use Rattle.wire.proofs.Readers.{handed}
 use Rattle.image.proofs.OneForm.{inode-one}
 use Rattle.image.proofs.Passing.{ends-got, ends-list, ends-unlisted, Passed, passed-unkeyed, passed-stop, passed-all}

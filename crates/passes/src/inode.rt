@@ -46,7 +46,12 @@ fn pass_held(img: &[u8], at: usize, what: Held) -> Result<usize, Fault>
 
 // Passes a list by inode, and finds the place of what stands under one inode, which is after the inode. Answers that place, and the one after the list.
 #[tactic(auto, using(crate::proofs::Inodes::finds))]
-pub fn find_inode(img: &[u8], at: usize, what: Held, sought: u64) -> Result<(Option<usize>, usize), Fault>
+pub fn find_inode(
+    img: &[u8],
+    at: usize,
+    what: Held,
+    sought: u64,
+) -> Result<(Option<usize>, usize), Fault>
     ensures { Finds img.now what sought at result }
 {
     let (count, first) = read_number(img, at, LAST_WORD)?;
@@ -55,7 +60,13 @@ pub fn find_inode(img: &[u8], at: usize, what: Held, sought: u64) -> Result<(Opt
 
 // The same of `count` rows, the first of which is at `first`.
 #[tactic(auto, using(crate::proofs::Inodes::finds))]
-fn find_from(img: &[u8], first: usize, count: u64, what: Held, sought: u64) -> Result<(Option<usize>, usize), Fault>
+fn find_from(
+    img: &[u8],
+    first: usize,
+    count: u64,
+    what: Held,
+    sought: u64,
+) -> Result<(Option<usize>, usize), Fault>
     requires { first ≤ length img.now }
     ensures { FindsRows img.now what sought first count result }
 {

@@ -6,7 +6,10 @@ ghost use Rattle.image.specs.KindLayout.{kind_at};
 ghost use Rattle.image.specs.RecordLayout.{later_flags, fields, changes, change_part, layer_record};
 ghost use Rattle.image.specs.Places.{Ends};
 
-use image::field::{LAST_SIZE, LAST_WORD, pass_maybe_number, pass_maybe_text, pass_number, pass_number_if, pass_time_if};
+use image::field::{
+    LAST_SIZE, LAST_WORD, pass_maybe_number, pass_maybe_text, pass_number, pass_number_if,
+    pass_time_if,
+};
 use image::name::{Under, pass_names};
 use wire::fault::Fault;
 use wire::number::read_number;

@@ -10,14 +10,14 @@ use mir.Syntax.{w8}
 use mir.Val.{Fits}
 use lib.ListN.{get_or, length, take, drop, length-drop, drop_of_length-le}
 use lib.Seq.{drop-drop, take_all, take-nil}
-use Rattle.wire.specs.Parse.{Parsed, fault, got, bind, never-got}
+use Rattle.wire.specs.Parse.{Parsed, got, bind}
 use Rattle.wire.specs.Codec.{Bytes}
 use Rattle.wire.specs.Combinators.{all-bytes}
 use Rattle.wire.specs.Number.{edge, number_read}
-use Rattle.wire.specs.Text.{length_read, text-read}
+use Rattle.wire.specs.Text.{text-read}
 use Rattle.wire.specs.Time.{unzigzag, time}
 use Rattle.wire.specs.declared.time.Time.{Time}
-use Rattle.wire.specs.Reading.{Reads, ReadsPart, said, place_in, part}
+use Rattle.wire.specs.Reading.{Reads, ReadsPart, part}
 use Rattle.wire.specs.declared.text.Part.{Part}
 use Rattle.wire.proofs.NumberForms.{number-forth}
 use Rattle.wire.specs.declared.fault.Fault.{Fault}

@@ -1,4 +1,3 @@
-use mathlib.Core.Path.{refl}
 use native.Mathlib.Omega.{arith}
 use Rattle.passes.specs.Held.{held}
 use Rattle.image.specs.Places.{inode_before}
