@@ -33,12 +33,8 @@ pub fn name_after(img: &[u8], at: usize, before: Option<Part>) -> Result<(Part, 
     let Some(last) = before else {
         return Ok((name, next));
     };
-    match compare_part(
-        img,
-        last.start,
-        last.length,
-        part(img, name.start, name.length),
-    ) {
+    let bytes = part(img, name.start, name.length);
+    match compare_part(img, last.start, last.length, bytes) {
         Ordering::Less => Ok((name, next)),
         Ordering::Equal => Err(Fault::Malformed),
         Ordering::Greater => Err(Fault::Malformed),
