@@ -7,8 +7,7 @@ use Prim.Native.Nat.{ℕ, zero, suc, ◌-◌, ◌≤◌}
 use native.Mathlib.Omega.{arith}
 use lib.ListN.{length, drop}
 use Rattle.wire.specs.Parse.{Parsed, fault, got, bind, never-got, bind_inv}
-use Rattle.wire.specs.declared.cursor.Cursor.{Cursor}
-use Rattle.wire.specs.declared.cursor.Cursor.TheVariants.{At, Stop}
+use Rattle.std.specs.Prelude.{Ok}
 use Rattle.wire.specs.Codec.{Codec, whole, decode}
 use Rattle.wire.specs.Combinators.{◌then◌, seq}
 use Rattle.wire.specs.declared.time.Time.{Time}
@@ -166,10 +165,8 @@ module _ (img : List ℕ) (i : ℕ) where
 -- ---- the whole survey
 
 -- where a construct that was read ends
-ends-place : {A : Type 0} {img : List ℕ} {p : List ℕ → Parsed A} {n : ℕ} {a : A} {t : List ℕ} (c : Cursor) → Ends img p (At n) c → p (drop n img) ≡ got a t
-    → (m : ℕ) × (c ≡ At m) × (drop m img ≡ t) × (m ≤ length img)
-ends-place {img = img} {a = a} {t} (At m) h e = let d = rw e at h.same in (m, refl, cc, h.within)
-ends-place (Stop f) h e = never-got (sym (rw e at h.same))
+ends-place : {A : Type 0} {img : List ℕ} {p : List ℕ → Parsed A} {n m : ℕ} {a : A} {t : List ℕ} → Ends img p n (Ok m) → p (drop n img) ≡ got a t → drop m img ≡ t
+ends-place {img = img} {m = m} {a} {t} h e = let d = rw e at h.same in cc
 
 read_whole : (s : List ℕ) {st : Store} → read_image s ≡ got st [] → store.read s ≡ got st []
 unfolding decode
@@ -192,20 +189,16 @@ hold-last img p (n ∷ ns) (x ∷ l) o a h k = (h.0, hold-last img p ns l o a h.
 
 -- the places in the list of batches
 queue-holds : (img : List ℕ) (i n : ℕ) {bs : List Batch} {r : List ℕ} → n ≤ length img → batches.read (drop n img) ≡ got bs r
-    → AllHold img layer_record.read (queue_places img i (At n)) (batch_records i bs)
+    → AllHold img layer_record.read (queue_places img i n) (batch_records i bs)
 queue-holds img i n {bs} {r} h e =
     let m = made-inv batches_of (queue_rows.read (drop n img)) (sym (batches-rows (drop n img)) ∙ e) in
     let c = bind_inv (number_read 16 (drop n img)) (λ k t. rows_from by_number inode batch_rest k none t) m.1 in
     let w = suffix-rest (number_to 16 refl) (number_to-one 16 refl) (suffix-drop img n h) c.2 in
-    let q : queue_places img i (At n) ≡ batch_places (length img) i c.0 c.1 =
+    let q : queue_places img i n ≡ batch_places (length img) i c.0 c.1 =
     ap (λ (o : Parsed ℕ). or_none (as_option o) (λ p. batch_places (length img) i p.0 p.1)) c.2 in
     subst (λ (l : List ℕ). AllHold img layer_record.read l (batch_records i bs)) (sym q)
     (subst (λ (l : List Batch). AllHold img layer_record.read (batch_places (length img) i c.0 c.1) (batch_records i l)) m.2
     (batches-hold img i c.0 none c.1 w c.3))
-
--- A survey of an image that is read to its end ends at a place.
-pub survey-end : {img : List ℕ} {i : ℕ} {r : Survey} {s : Store} → Surveys img i r → read_image img ≡ got s [] → (q : ℕ) × (r.end ≡ At q)
-survey-end {img} {r = r} w e = let q = ends-place r.end w.ends (read_whole img e) in (q.0, q.1)
 
 -- What a survey found of an inode is what the image's store has: its node, and its record in each layer that has one, the front batch's first.
 pub record SurveyHolds (img : List ℕ) (i : ℕ) (r : Survey) (s : Store) : Type 0 where
@@ -216,15 +209,15 @@ pub survey-holds : {img : List ℕ} {i : ℕ} {r : Survey} {s : Store} → Surve
 survey-holds {img} {i} {r} {s} w e =
     let d = read_whole img e in
     let x = sections img d in
-    let q = ends-place r.end w.ends d in
-    let b = ends-place r.batches w.base x.at_base in
-    let eb : batches.read (drop b.0 img) ≡ got s.batches x.r2 = rw b.2 x.at_batches in
-    let l = ends-place r.live (rw b.1 at w.batches) eb in
-    let el : records.read (drop l.0 img) ≡ got s.live x.r3 = rw l.2 x.at_live in
+    let b = ends-place w.base x.at_base in
+    let eb : batches.read (drop r.batches img) ≡ got s.batches x.r2 = rw b x.at_batches in
+    let l = ends-place w.batches eb in
+    let el : records.read (drop r.live img) ≡ got s.live x.r3 = rw l x.at_live in
     record {
-      node_held = rw (w.node q.0 q.1) (list-holds by_number inode node img i inode-one node-one 0 (omega arith) x.at_base);
+      node_held = rw w.node (list-holds by_number inode node img i inode-one node-one 0 (omega arith) x.at_base);
       records_held =
-          rw (w.deltas q.0 q.1, b.1, l.1)
-          (hold-last img layer_record.read (queue_places img i (At b.0)) (batch_records i s.batches) (place_in by_number inode layer_record img i (At l.0))
-          (get by_number i s.live) (queue-holds img i b.0 b.3 eb) (list-holds by_number inode layer_record img i inode-one layer_record-one l.0 l.3 el));
+          rw w.deltas
+          (hold-last img layer_record.read (queue_places img i r.batches) (batch_records i s.batches) (place_in by_number inode layer_record img i r.live)
+          (get by_number i s.live) (queue-holds img i r.batches w.base.within eb)
+          (list-holds by_number inode layer_record img i inode-one layer_record-one r.live w.batches.within el));
     }
