@@ -1,14 +1,14 @@
 -- What the changes of attributes by value mean.
-use Rattle.std.specs.Prelude.{List, ℕ}
-use Rattle.wire.specs.declared.cursor.Cursor.{Cursor}
+use Rattle.std.specs.Prelude.{List, ℕ, Result, IfOk}
+use Rattle.wire.specs.declared.fault.Fault.{Fault}
 use Rattle.wire.specs.Parse.{Parsed, got, bind}
 use Rattle.wire.specs.Combinators.{opt-read}
-use Rattle.wire.specs.Reading.{Reads}
+use Rattle.wire.specs.Reading.{Reads, meant}
 use Rattle.image.specs.Meaning.{Fields}
 use Rattle.image.specs.declared.name.Under.TheVariants as U
 use Rattle.image.specs.RecordLayout.{changes, later_flags, fields, fields_of}
 use Rattle.nodes.specs.Options.{word_of, time_of}
-use Rattle.nodes.specs.Listed.{list_of, ListedIf, IfAt}
+use Rattle.nodes.specs.Listed.{list_of, ListedIf}
 use Rattle.nodes.specs.declared.option.OptionPart.{OptionPart}
 use Rattle.nodes.specs.declared.attr.AttrDelta.{AttrDelta}
 use Rattle.nodes.specs.declared.attr.Words.{Words}
@@ -43,9 +43,9 @@ attr_delta w t x = record {
 }
 
 -- attribute changes were read, and end where the reading does
-pub record ReadsChanges (img : List ℕ) (at : Cursor) (bit : ℕ) (o : OptionPart) (next : Cursor) : Type 0 where
-  pub reads : Reads img (opt-read changes.read bit) at (list_of img U.Change o) next
-  pub listed : IfAt next (ListedIf img U.Change o)
+pub record ReadsChanges (img : List ℕ) (at bit : ℕ) (r : Result (OptionPart × ℕ) Fault) : Type 0 where
+  pub reads : Reads img (opt-read changes.read bit) at (meant (list_of img U.Change) r)
+  pub listed : IfOk r (λ x. ListedIf img U.Change x.0 x.1)
 
 -- the upper bits of a mask, after the first four fields
 abbrev pub later_read : ℕ → Words → List ℕ → Parsed Fields
@@ -53,11 +53,11 @@ later_read bits w s =
     bind ((later_flags.at bits).read s) (λ l r.
     got (fields_of (word_of w.mode, (word_of w.uid, (word_of w.gid, (word_of w.nlink, l))))) r)
 
-pub record ReadsLater (img : List ℕ) (at : Cursor) (bits : ℕ) (w : Words) (a : AttrDelta) (next : Cursor) : Type 0 where
-  pub reads : Reads img (later_read bits w) at (fields_meant img a) next
-  pub listed : IfAt next (ListedIf img U.Change a.xattrs)
+pub record ReadsLater (img : List ℕ) (at bits : ℕ) (w : Words) (r : Result (AttrDelta × ℕ) Fault) : Type 0 where
+  pub reads : Reads img (later_read bits w) at (meant (fields_meant img) r)
+  pub listed : IfOk r (λ x. ListedIf img U.Change x.0.xattrs x.1)
 
 -- the fields were read, and the attribute changes are the last of them
-pub record ReadsAttr (img : List ℕ) (at : Cursor) (a : AttrDelta) (next : Cursor) : Type 0 where
-  pub reads : Reads img fields.read at (fields_meant img a) next
-  pub listed : IfAt next (ListedIf img U.Change a.xattrs)
+pub record ReadsAttr (img : List ℕ) (at : ℕ) (r : Result (AttrDelta × ℕ) Fault) : Type 0 where
+  pub reads : Reads img fields.read at (meant (fields_meant img) r)
+  pub listed : IfOk r (λ x. ListedIf img U.Change x.0.xattrs x.1)

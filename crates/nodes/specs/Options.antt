@@ -1,13 +1,13 @@
 -- What a value that is there, or not, means. Document 01: "`Option` becomes an enum", "texts as places beside it".
 use Rattle.std.proofs.Math.Option.{Option, none, some}
-use Rattle.std.specs.Prelude.{List, ℕ, ◌+◌, ◌≤◌, length}
-use Rattle.wire.specs.declared.cursor.Cursor.{Cursor}
+use Rattle.std.specs.Prelude.{List, ℕ, ◌+◌, ◌≤◌, length, Result, IfOk}
+use Rattle.wire.specs.declared.fault.Fault.{Fault}
 use Rattle.wire.specs.declared.time.Time.{Time}
 use Rattle.wire.specs.Text.{text-read}
-use Rattle.wire.specs.Reading.{part, Reads}
+use Rattle.wire.specs.Reading.{part, Reads, meant}
 use Rattle.image.specs.Meaning.{Text}
 use Rattle.image.specs.Places.{maybe_read}
-use Rattle.nodes.specs.declared.part.Part.{Part}
+use Rattle.wire.specs.declared.text.Part.{Part}
 use Rattle.nodes.specs.declared.option.OptionU32.{OptionU32}
 use Rattle.nodes.specs.declared.option.OptionU32.TheVariants as W
 use Rattle.nodes.specs.declared.option.OptionU64.{OptionU64}
@@ -45,6 +45,6 @@ text_of img (P.Some p) = some (text_at img p)
 text_of img P.None = none
 
 -- 0, or 1 and a text
-pub record ReadsText (img : List ℕ) (most : ℕ) (at : Cursor) (o : OptionPart) (next : Cursor) : Type 0 where
-  pub reads : Reads img (maybe_read (text-read 0 most)) at (text_of img o) next
-  pub inside : InsideIf img o
+pub record ReadsText (img : List ℕ) (most at : ℕ) (r : Result (OptionPart × ℕ) Fault) : Type 0 where
+  pub reads : Reads img (maybe_read (text-read 0 most)) at (meant (text_of img) r)
+  pub inside : IfOk r (λ x. InsideIf img x.0)

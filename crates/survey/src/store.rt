@@ -85,7 +85,8 @@ pub fn read_image(img: &[u8], sought: u64) -> Result<Survey, Refusal>
         return Err(Refusal::TooLong);
     }
     let survey = survey_store(img, sought)?;
-    if survey.end < img.len() {
+    let follows = survey.end < img.len();
+    if follows {
         return Err(Refusal::Broken);
     }
     Ok(survey)

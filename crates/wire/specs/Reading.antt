@@ -19,6 +19,11 @@ abbrev pub place_in : {A : Type 0} → List ℕ → Result (A × ℕ) Fault → 
 place_in img (Ok r) = r.1 ≤ length img
 place_in img (Err f) = Unit {0}
 
+-- what was read, by what its value means
+abbrev pub meant : {X A : Type 0} → (X → A) → Result (X × ℕ) Fault → Result (A × ℕ) Fault
+meant m (Ok r) = Ok (m r.0, r.1)
+meant m (Err f) = Err f
+
 -- What the parser reads at a place: the value and the place after it, or the fault at which it stops.
 pub record Reads {A : Type 0} (img : List ℕ) (p : List ℕ → Parsed A) (at : ℕ) (result : Result (A × ℕ) Fault) : Type 0 where
   pub same : p (drop at img) ≡ said img result

@@ -8,8 +8,8 @@ returns-then-img-gt65536 c = judged-long c.if-img-gt65536.true
 pub returns-in_err-survey : goal.returns-in_err-survey
 returns-in_err-survey c = judged-broken c.if-img-gt65536.false c.survey_store.ensures c.in_err-survey.was (handed c.from_residual.ensures)
 
-pub returns-then-survey-img : goal.returns-then-survey-img
-returns-then-survey-img c = judged-longer c.if-img-gt65536.false c.survey_store.ensures c.in_ok-survey.was c.if-survey-img.true
+pub returns-then-follows : goal.returns-then-follows
+returns-then-follows c = judged-longer c.if-img-gt65536.false c.survey_store.ensures c.in_ok-survey.was c.if-follows.true
 
 pub returns : goal.returns
-returns c = judged-fine c.if-img-gt65536.false c.survey_store.ensures c.in_ok-survey.was c.if-survey-img.false
+returns c = judged-fine c.if-img-gt65536.false c.survey_store.ensures c.in_ok-survey.was c.if-follows.false
