@@ -2,52 +2,94 @@
 -- Assumes nothing.
 use mathlib.Core.Path.{◌≡◌, refl}
 use mathlib.Core.List.{List}
-use Prim.Native.Nat.{ℕ, zero, suc, ◌-◌, ◌<◌}
+use lib.ListN.{length}
+use Prim.Native.Nat.{ℕ, zero, suc, ◌-◌, ◌<◌, ◌≤◌}
 use native.Mathlib.Omega.{arith}
-use Rattle.wire.specs.declared.cursor.Cursor.{Cursor}
+use Rattle.std.specs.Prelude.{Result, Ok, Err}
+use Rattle.wire.specs.declared.fault.Fault.{Fault}
 use Rattle.wire.specs.Parse.{got, bind}
+use Rattle.wire.specs.Combinators.{◌then◌}
 use Rattle.wire.specs.Number.{number_read}
 use Rattle.wire.specs.Lists.{last_count}
-use Rattle.wire.specs.Reading.{Reads, Answers, cursor_in}
-use Rattle.wire.proofs.Readers.{read-then, read-end}
+use Rattle.wire.specs.Reading.{Reads}
+use Rattle.wire.proofs.Readers.{read-then, read-stop, read-end, handed}
 use Rattle.image.specs.KindLayout.{kind_at, kind, code_at, code}
 use Rattle.image.specs.NodeLayout.{meta, body_part, node, node_of}
 use Rattle.image.specs.RecordLayout.{fields, change_part, code_part, record_of, layer_record}
 use Rattle.image.specs.Places.{Ends}
-use Rattle.image.proofs.Passing.{ends_of, ends-chosen, ends-made, ends-then}
+use Rattle.image.proofs.Passing.{ends-chosen, ends-unchosen, ends-made, ends-then, ends-stop}
 
 -- a number that stands for a value
-pub reads-coded : {A : Type 0} {img : List ℕ} {at next : Cursor} {n : ℕ} (most : ℕ) (of : ℕ → A) → Answers img (number_read most) at 0 n next
-    → Reads img (λ s. bind (number_read most s) (λ n r. got (of n) r)) at (of n) next
-reads-coded {img = img} most of h = read-then img _ (λ n r. got (of n) r) h.reads (read-end img h.reads.within)
+pub reads-coded : {A : Type 0} {img : List ℕ} {at n m : ℕ} (most : ℕ) (of : ℕ → A) → Reads img (number_read most) at (Ok (n, m))
+    → Reads img (λ s. bind (number_read most s) (λ n r. got (of n) r)) at (Ok (of n, m))
+reads-coded most of h = read-then (λ n r. got (of n) r) h (read-end h.within)
 
-module _ {img : List ℕ} {at start body next : Cursor} {n : ℕ} where
-  pub passes-node : Answers img (number_read 6) at 0 n start → Ends img meta.read start body → Ends img (body_part (kind_at n)).read body next
-      → Ends img node.read at next
+pub reads-no_code : {A : Type 0} {img : List ℕ} {at : ℕ} {f : Fault} (most : ℕ) (of : ℕ → A) → Reads img (number_read most) at (Err f)
+    → Reads img (λ s. bind (number_read most s) (λ n r. got (of n) r)) at (Err f)
+reads-no_code most of h = read-stop (λ n r. got (of n) r) h
+
+-- ---- nodes
+
+module _ {img : List ℕ} {at : ℕ} {o : Result (ℕ × ℕ) Fault} (h : Reads img (number_read 6) at o) where
+  pub passes-no_kind : {r : Result ℕ Fault} {f : Fault} → o ≡ Err f → r ≡ Err f → Ends img node.read at r
   unfolding kind node
-  passes-node h m b =
-      ends-made _ node_of (ends-chosen _ _ (reads-coded 6 kind_at h) (ends-made _ (λ p. (kind_at n, p)) (ends-then meta.read (body_part (kind_at n)).read (λ a b. (a, b)) m b)))
+  passes-no_kind d e = ends-made node_of (ends-unchosen _ (reads-no_code 6 kind_at (rw d at h)) refl e)
+
+  module _ {n start : ℕ} (d : o ≡ Ok (n, start)) {u : Result ℕ Fault} (m : Ends img meta.read start u) where
+    pub passes-no_meta : {r : Result ℕ Fault} {f : Fault} → u ≡ Err f → r ≡ Err f → Ends img node.read at r
+    unfolding kind node
+    passes-no_meta c e =
+        ends-made node_of (ends-chosen _ (reads-coded 6 kind_at (rw d at h)) refl (ends-made (λ p. (kind_at n, p)) (ends-stop _ m c e)))
+
+    pub passes-node : {r : Result ℕ Fault} {body : ℕ} → u ≡ Ok body → Ends img (body_part (kind_at n)).read body r → Ends img node.read at r
+    unfolding kind node
+    passes-node c b =
+        ends-made node_of (ends-chosen _ (reads-coded 6 kind_at (rw d at h)) refl (ends-made (λ p. (kind_at n, p)) (ends-then (body_part (kind_at n)).read (λ a b. (a, b)) m c b)))
+
+pub ruleset passes_node = (passes-no_kind, passes-no_meta, passes-node, handed)
 
 -- a pipe and a socket have nothing of their own
-pub passes-nothing : {img : List ℕ} {at : Cursor} (n : ℕ) → (n ≡ 0 → ⊥) → (n ≡ 1 → ⊥) → (n ≡ 2 → ⊥) → (n ≡ 4 → ⊥) → (n ≡ 5 → ⊥) → cursor_in img at
-    → Ends img (body_part (kind_at n)).read at at
+pub passes-nothing : {img : List ℕ} {at : ℕ} (n : ℕ) → (n ≡ 0 → ⊥) → (n ≡ 1 → ⊥) → (n ≡ 2 → ⊥) → (n ≡ 4 → ⊥) → (n ≡ 5 → ⊥) → at ≤ length img
+    → Ends img (body_part (kind_at n)).read at (Ok at)
 passes-nothing zero a b c d e w = absurd (a refl)
 passes-nothing (suc zero) a b c d e w = absurd (b refl)
 passes-nothing (suc (suc zero)) a b c d e w = absurd (c refl)
-passes-nothing (suc (suc (suc zero))) a b c d e w = ends_of (read-end _ w)
+passes-nothing (suc (suc (suc zero))) a b c d e w = record { same = refl; within = w }
 passes-nothing (suc (suc (suc (suc zero)))) a b c d e w = absurd (d refl)
 passes-nothing (suc (suc (suc (suc (suc zero))))) a b c d e w = absurd (e refl)
-passes-nothing (suc (suc (suc (suc (suc (suc n)))))) a b c d e w = ends_of (read-end _ w)
+passes-nothing (suc (suc (suc (suc (suc (suc n)))))) a b c d e w = record { same = refl; within = w }
 
 -- ---- records
 
-pub passes-record : {img : List ℕ} {at start next : Cursor} {n : ℕ} → Answers img (number_read 7) at 0 n start → Ends img (code_part (code_at n)).read start next
-    → Ends img layer_record.read at next
-unfolding code layer_record
-passes-record {n = n} h b = ends-made _ record_of (ends-chosen _ _ (reads-coded 7 code_at h) (ends-made _ (λ p. (code_at n, p)) b))
+module _ {img : List ℕ} {at : ℕ} {o : Result (ℕ × ℕ) Fault} (h : Reads img (number_read 7) at o) where
+  pub passes-no_code : {r : Result ℕ Fault} {f : Fault} → o ≡ Err f → r ≡ Err f → Ends img layer_record.read at r
+  unfolding code layer_record
+  passes-no_code d e = ends-made record_of (ends-unchosen _ (reads-no_code 7 code_at (rw d at h)) refl e)
 
-pub passes-device : {img : List ℕ} {at next : Cursor} (n : ℕ) → (n ≡ 0 → ⊥) → (n ≡ 1 → ⊥) → (n ≡ 2 → ⊥) → Ends img (number_read last_count) at next
-    → Ends img (change_part (kind_at n)).read at next
+  module _ {n start : ℕ} (d : o ≡ Ok (n, start)) where
+    coded : {r : Result ℕ Fault} → Ends img (code_part (code_at n)).read start r → Ends img layer_record.read at r
+    unfolding code layer_record
+    coded b = ends-made record_of (ends-chosen _ (reads-coded 7 code_at (rw d at h)) refl (ends-made (λ p. (code_at n, p)) b))
+
+    pub passes-tombstone : n ≡ 0 → Ends img layer_record.read at (Ok start)
+    passes-tombstone e = let g = rw d at h in coded (rw e (record { same = refl; within = g.within }))
+
+    module _ (z : n ≡ 0 → ⊥) {u : Result ℕ Fault} (m : Ends img fields.read start u) where
+      delta : (n : ℕ) → (n ≡ 0 → ⊥) → {r : Result ℕ Fault} → Ends img (fields then change_part (kind_at (n - 1))).read start r
+          → Ends img (code_part (code_at n)).read start r
+      delta zero z b = absurd (z refl)
+      delta (suc n) z b = let e : suc n - 1 ≡ n = omega arith in rw e at b
+
+      pub passes-no_fields : {r : Result ℕ Fault} {f : Fault} → u ≡ Err f → r ≡ Err f → Ends img layer_record.read at r
+      passes-no_fields c e = coded (delta n z (ends-stop _ m c e))
+
+      pub passes-delta : {r : Result ℕ Fault} {change : ℕ} → u ≡ Ok change → Ends img (change_part (kind_at (n - 1))).read change r → Ends img layer_record.read at r
+      passes-delta c b = coded (delta n z (ends-then (change_part (kind_at (n - 1))).read (λ a b. (a, b)) m c b))
+
+pub ruleset passes_record = (passes-no_code, passes-tombstone, passes-no_fields, passes-delta, handed)
+
+pub passes-device : {img : List ℕ} {at : ℕ} {r : Result ℕ Fault} (n : ℕ) → (n ≡ 0 → ⊥) → (n ≡ 1 → ⊥) → (n ≡ 2 → ⊥) → Ends img (number_read last_count) at r
+    → Ends img (change_part (kind_at n)).read at r
 passes-device zero a b c h = absurd (a refl)
 passes-device (suc zero) a b c h = absurd (b refl)
 passes-device (suc (suc zero)) a b c h = absurd (c refl)
@@ -55,16 +97,6 @@ passes-device (suc (suc (suc zero))) a b c h = h
 passes-device (suc (suc (suc (suc zero)))) a b c h = h
 passes-device (suc (suc (suc (suc (suc zero))))) a b c h = h
 passes-device (suc (suc (suc (suc (suc (suc n)))))) a b c h = h
-
-pub passes-tombstone : {img : List ℕ} {at : Cursor} {n : ℕ} → n ≡ 0 → cursor_in img at → Ends img (code_part (code_at n)).read at at
-passes-tombstone e w = rw e (ends_of (read-end _ w))
-
-pub passes-delta : {img : List ℕ} {at mid next : Cursor} (n : ℕ) → (n ≡ 0 → ⊥) → Ends img fields.read at mid → Ends img (change_part (kind_at (n - 1))).read mid next
-    → Ends img (code_part (code_at n)).read at next
-passes-delta zero z f b = absurd (z refl)
-passes-delta (suc n) z f b =
-    let e : suc n - 1 ≡ n = omega arith in
-    ends-then fields.read (change_part (kind_at n)).read (λ a b. (a, b)) f (rw e at b)
 
 -- a number that is none from 0 to 6
 pub above-six : (n : ℕ) → (n ≡ 0 → ⊥) → (n ≡ 1 → ⊥) → (n ≡ 2 → ⊥) → (n ≡ 3 → ⊥) → (n ≡ 4 → ⊥) → (n ≡ 5 → ⊥) → (n ≡ 6 → ⊥) → 6 < n

@@ -1,6 +1,7 @@
 -- Each format of the image has one form, and so has the image.
 -- Assumes nothing.
-use Rattle.std.specs.Prelude.{List, ℕ, ◌%◌, ◌/◌, ◌≤◌, ◌≡◌, refl, true, leb, length, None, Option, Some}
+use Rattle.std.specs.Prelude.{List, ℕ, ◌%◌, ◌/◌, ◌≤◌, ◌≡◌, refl, true, leb, length}
+use Rattle.std.proofs.Math.Option.{Option, none, some}
 use Rattle.std.proofs.Common.{arith}
 use Rattle.wire.specs.Codec.{Codec, OneForm}
 use Rattle.wire.specs.Combinators.{nothing, seq, ◌then◌, tagged, optional}
@@ -158,8 +159,8 @@ change_part-one symlink = maybe-one target target-one
 change_part-one (special s) = word-one
 
 pub code_part-one : (c : Option Kind) → OneForm (code_part c)
-code_part-one None = nothing-one
-code_part-one (Some k) = then-one fields (change_part k) fields-one (change_part-one k)
+code_part-one none = nothing-one
+code_part-one (some k) = then-one fields (change_part k) fields-one (change_part-one k)
 
 pub plain_record-one : OneForm plain_record
 plain_record-one =
@@ -190,8 +191,8 @@ batch_after-one prev =
 
 pub plain_batches-one : OneForm plain_batches
 plain_batches-one =
-    tagged-one (number_to 16 refl) length (chain batch_after id_of None) (λ n l h. h.0) (number_to-one 16 refl)
-    (chain-one batch_after id_of batch_after-one None)
+    tagged-one (number_to 16 refl) length (chain batch_after id_of none) (λ n l h. h.0) (number_to-one 16 refl)
+    (chain-one batch_after id_of batch_after-one none)
 
 pub batches-one : OneForm batches
 unfolding batches

@@ -4,7 +4,7 @@ use Rattle.std.specs.Prelude.{ℕ, ◌≡◌, List, [], ◌++◌}
 use Rattle.std.proofs.Common.{sym}
 use Rattle.wire.specs.Parse.{fault, got}
 use Rattle.wire.proofs.Decoding.{decode-encode, encode-decode, decode-cut}
-use Rattle.wire.specs.declared.cursor.Fault.TheVariants.{Ended}
+use Rattle.wire.specs.declared.fault.Fault.TheVariants.{Ended}
 use Rattle.image.specs.Meaning.{Store}
 use Rattle.image.specs.Fits.{FitsStore}
 use Rattle.image.specs.StoreLayout.{store}

@@ -1,5 +1,6 @@
 -- The four lists by name: what stands under each name.
-use Rattle.std.specs.Prelude.{ℕ, Option}
+use Rattle.std.proofs.Math.Option.{Option}
+use Rattle.std.specs.Prelude.{ℕ}
 use Rattle.wire.specs.Codec.{Codec}
 use Rattle.wire.specs.Combinators.{nothing}
 use Rattle.image.specs.Meaning.{Text}

@@ -1,20 +1,20 @@
 // Lists by name: entries, removed names, attributes, attribute changes.
 ghost use Rattle.std.specs.Prelude.{◌≤◌, refl, length};
+ghost use Rattle.std.proofs.Math.Option.{none};
 ghost use Rattle.wire.specs.Combinators.{only};
 ghost use Rattle.wire.specs.Orders.{by_bytes};
 ghost use Rattle.wire.specs.Lists.{after, rising, last_count};
-ghost use Rattle.wire.specs.Reading.{AnswersPart, cursor_in};
+ghost use Rattle.wire.specs.Reading.{ReadsPart};
 ghost use Rattle.image.specs.FieldLayout.{name as nameText};
 ghost use Rattle.image.specs.Under.{under};
 ghost use Rattle.image.specs.Places.{Ends, name_before, rows_from};
 
-use std::cmp::Ordering;
-use crate::field::{pass_maybe_text, pass_number, pass_text};
-use wire::cursor::{Cursor, Fault};
+use crate::field::{LAST_WORD, pass_maybe_text, pass_number, pass_text};
+use wire::fault::Fault;
 use wire::number::read_number;
-use wire::order::compare_part;
+use wire::order::{Ordering, compare_part};
 use wire::part::part;
-use wire::text::{TextRead, no_text, read_text};
+use wire::text::{Part, read_text};
 
 // What stands under each name of a list.
 #[derive(Clone, Copy)]
@@ -25,69 +25,55 @@ pub enum Under {
     Change,
 }
 
-// The name at `at`, which is after the one before it. The name before is the `size` bytes from `start` on, none if they are 0.
-pub fn name_after(img: &[u8], at: Cursor, start: usize, size: usize) -> TextRead
-    ensures { AnswersPart img.now (only (after by_bytes (name_before img.now start size)) nameText).read at result.start result.length result.next }
+// The name at `at`, which is after the one before it, if there is one, and the place after it.
+pub fn name_after(img: &[u8], at: usize, before: Option<Part>) -> Result<(Part, usize), Fault>
+    ensures { ReadsPart img.now (only (after by_bytes (name_before img.now before)) nameText).read at result }
 {
-    let name = read_text(img, at, 1, 255);
-    let here = name.start;
-    let length = name.length;
-    let next = name.next;
-    match next {
-        Cursor::At(_) => match compare_part(img, start, size, part(img, here, length)) {
-            Ordering::Less => name,
-            Ordering::Equal => no_text(Fault::Malformed),
-            Ordering::Greater => no_text(Fault::Malformed),
-        },
-        Cursor::Stop(_) => name,
+    let (name, next) = read_text(img, at, 1, 255)?;
+    let Some(last) = before else {
+        return Ok((name, next));
+    };
+    let bytes = part(img, name.start, name.length);
+    match compare_part(img, last.start, last.length, bytes) {
+        Ordering::Less => Ok((name, next)),
+        Ordering::Equal => Err(Fault::Malformed),
+        Ordering::Greater => Err(Fault::Malformed),
     }
 }
 
 // Passes what stands under a name.
-pub fn pass_under(img: &[u8], at: Cursor, what: Under) -> Cursor
-    requires { cursor_in img.now at }
+pub fn pass_under(img: &[u8], at: usize, what: Under) -> Result<usize, Fault>
+    requires { at ≤ length img.now }
     ensures { Ends img.now (under what).read at result }
 {
     match what {
-        Under::Nothing => at,
-        Under::Inode => pass_number(img, at, 0xFFFF_FFFF_FFFF_FFFF),
+        Under::Nothing => Ok(at),
+        Under::Inode => pass_number(img, at, u64::MAX),
         Under::Value => pass_text(img, at, 0, 4096),
         Under::Change => pass_maybe_text(img, at, 4096),
     }
 }
 
 // Passes a list by name.
-pub fn pass_names(img: &[u8], at: Cursor, what: Under) -> Cursor
+pub fn pass_names(img: &[u8], at: usize, what: Under) -> Result<usize, Fault>
     ensures { Ends img.now (rising by_bytes nameText (under what) last_count refl).read at result }
 {
-    let count = read_number(img, at, 0xFFFF_FFFF);
-    let next = count.next;
-    match next {
-        Cursor::At(first) => names_from(img, first, count.value, what),
-        Cursor::Stop(fault) => Cursor::Stop(fault),
-    }
+    let (count, first) = read_number(img, at, LAST_WORD)?;
+    names_from(img, first, count, what)
 }
 
 // Passes `count` rows of a list by name, the first of which is at `first`.
-fn names_from(img: &[u8], first: usize, count: u64, what: Under) -> Cursor
+#[tactic(auto, using(crate::proofs::Passing::passes_rows))]
+fn names_from(img: &[u8], first: usize, count: u64, what: Under) -> Result<usize, Fault>
     requires { first ≤ length img.now }
-    ensures { Ends img.now (rows_from by_bytes nameText (under what) count None) (Cursor.At first) result }
+    ensures { Ends img.now (rows_from by_bytes nameText (under what) count none) first result }
 {
-    let mut left = count;
     let mut here = first;
-    let mut start: usize = 0;
-    let mut size: usize = 0;
-    while 0 < left {
-        let name = name_after(img, Cursor::At(here), start, size);
-        let named = name.next;
-        let next = pass_under(img, named, what);
-        let Cursor::At(place) = next else {
-            return next;
-        };
-        start = name.start;
-        size = name.length;
-        here = place;
-        left = left - 1;
+    let mut before: Option<Part> = None;
+    for _row in 0..count {
+        let (name, named) = name_after(img, here, before)?;
+        here = pass_under(img, named, what)?;
+        before = Some(name);
     }
-    Cursor::At(here)
+    Ok(here)
 }

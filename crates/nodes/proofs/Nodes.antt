@@ -1,79 +1,79 @@
 -- How a node of the base is read, field by field.
 -- Assumes nothing.
-use mathlib.Core.Path.{◌≡◌, subst}
+use mathlib.Core.Path.{◌≡◌}
 use mathlib.Core.List.{List}
+use Rattle.std.specs.Prelude.{Result, Ok, Err}
 use Prim.Native.Nat.{ℕ, suc, ◌+◌, ◌-◌, ◌<◌}
 use native.Mathlib.Omega.{arith}
 use lib.ListN.{length}
-use Rattle.wire.specs.declared.cursor.Cursor.{Cursor}
-use Rattle.wire.specs.declared.cursor.Cursor.TheVariants as C
-use Rattle.wire.specs.Parse.{Parsed, got, bind, bind-bind, never-got}
-use Rattle.wire.specs.Number.{edge, number_read}
-use Rattle.wire.specs.Reading.{Reads, Answers}
-use Rattle.wire.proofs.Readers.{read-then}
-use Rattle.image.specs.declared.name.Under.TheVariants as U
-use Rattle.image.specs.Meaning.{Meta, Body, Kind, directory, special, socket}
+use Rattle.wire.specs.declared.fault.Fault.{Fault}
+use Rattle.wire.specs.Parse.{Parsed, got, bind, bind-bind}
+use Rattle.wire.specs.Number.{number_read}
+use Rattle.wire.specs.Reading.{Reads}
+use Rattle.wire.proofs.Readers.{read-then, read-stop, handed}
+use Rattle.image.specs.Meaning.{Meta, Body, Kind, special, socket}
 use Rattle.image.specs.Meaning as M
 use Rattle.image.specs.KindLayout.{kind_at, kind}
-use Rattle.image.specs.NodeLayout.{BodyPart, body_part, body_of, meta, node}
-use Rattle.image.proofs.Constructs.{reads-coded}
-use Rattle.nodes.specs.declared.part.Part.{Part}
+use Rattle.image.specs.NodeLayout.{meta, node}
+use Rattle.image.proofs.Constructs.{reads-coded, reads-no_code}
 use Rattle.nodes.specs.declared.node.InodeMeta.{InodeMeta}
 use Rattle.nodes.specs.declared.node.NodeKind.{NodeKind}
-use Rattle.nodes.specs.declared.node.NodeKind.TheVariants as K
-use Rattle.nodes.specs.Listed.{Listed, IfAt, ReadsNames}
-use Rattle.nodes.specs.Nodes.{meta_meant, body_meant, node_meant, EntriesListed, body_read, ReadsMeta, ReadsKind, ReadsNode}
+use Rattle.nodes.specs.declared.node.Node.{Node}
+use Rattle.nodes.specs.Nodes.{meta_meant, body_read, ReadsMeta, ReadsKind, ReadsNode}
 use Rattle.nodes.proofs.Reading.{reads-length, reads_byte}
-use Rattle.nodes.proofs.Values.{reads_made, reads-pair}
+use Rattle.nodes.proofs.Values.{reads_made, reads_same}
 use Rattle.image.proofs.OneForm.{meta-one}
 
 abbrev together : Meta → Body → M.Node
 together m b = record { meta = m; body = b }
 
 -- kind, meta, and the body that the kind says
-node-read : (s : List ℕ) → bind (kind.read s) (λ k r. bind (meta.read r) (λ m t. bind (body_read k t) (λ b u. got (together m b) u))) ≡ node.read s
+abbrev parts_read : List ℕ → Parsed M.Node
+parts_read s = bind (kind.read s) (λ k r. bind (meta.read r) (λ m t. bind (body_read k t) (λ b u. got (together m b) u)))
+
+node-read : (s : List ℕ) → parts_read s ≡ node.read s
 unfolding node
 node-read s = simp bind-bind
 
-module _ {img : List ℕ} {n : ℕ} {m : InodeMeta} {b : NodeKind} where
-  -- the attributes stand at the end of the meta, which starts after one byte
-  attributes-end : (at start middle next : Cursor) → Answers img (number_read 6) at 0 n start → ReadsMeta img start m middle → ReadsKind img (kind_at n) middle b next
-      → (p : ℕ) → at ≡ C.At p → IfAt next (λ q. Listed img U.Value m.xattrs (p + 1 + length (meta.write (meta_meant img m))))
-  attributes-end at start middle (C.Stop f) h g k p e = tt
-  attributes-end at start (C.Stop f) (C.At q) h g k p e = never-got k.reads.same
-  attributes-end at (C.Stop f) (C.At i) (C.At q) h g k p e = never-got g.reads.same
-  attributes-end at (C.At s) (C.At i) (C.At q) h g k p e =
-      let d : s ≡ p + 1 = reads_byte (omega arith) (rw e at h.reads) in
-      let z : i ≡ p + 1 + length (meta.write (meta_meant img m)) = omega (arith, reads-length meta meta-one h.reads.within g.reads) in
-      rw z at g.attributes
+module _ {img : List ℕ} {at : ℕ} {o : Result (ℕ × ℕ) Fault} (h : Reads img (number_read 6) at o) where
+  whole : {r : Result (M.Node × ℕ) Fault} → Reads img parts_read at r → Reads img node.read at r
+  whole g = reads_same node-read g
 
-  pub reads-node : {at start middle next : Cursor} → Answers img (number_read 6) at 0 n start → ReadsMeta img start m middle → ReadsKind img (kind_at n) middle b next
-      → ReadsNode img at (record { meta = m; kind = b }) next
+  stopped : {r : Result (Node × ℕ) Fault} {f : Fault} → r ≡ Err f → Reads img parts_read at (Err f) → ReadsNode img at r
+  stopped e g = rw e (record { reads = whole g; attributes = tt; entries = tt })
+
+  pub kind-stops : {r : Result (Node × ℕ) Fault} {f : Fault} → o ≡ Err f → r ≡ Err f → ReadsNode img at r
   unfolding kind
-  reads-node {at} {start} {middle} {next} h g k =
-      record {
-        reads =
-            subst (λ (p : List ℕ → Parsed M.Node). Reads img p at (node_meant img (record { meta = m; kind = b })) next) (λ i s. node-read s i)
-            (read-then img _ _ (reads-coded 6 kind_at h) (read-then img _ _ g.reads (reads_made _ (together (meta_meant img m)) k.reads)));
-        attributes = attributes-end at start middle next h g k;
-        entries = k.entries;
-      }
+  kind-stops d e = stopped e (read-stop _ (reads-no_code 6 kind_at (rw d at h)))
 
--- ---- what a node has by its kind
+  module _ {n start : ℕ} (d : o ≡ Ok (n, start)) {u : Result (InodeMeta × ℕ) Fault} (g : ReadsMeta img start u) where
+    pub meta-stops : {r : Result (Node × ℕ) Fault} {f : Fault} → u ≡ Err f → r ≡ Err f → ReadsNode img at r
+    unfolding kind
+    meta-stops c e = let i = rw c at g in stopped e (read-then _ (reads-coded 6 kind_at (rw d at h)) (read-stop _ i.reads))
 
--- what has no entries
-pub reads-own : {img : List ℕ} {k : Kind} {at next : Cursor} {p : BodyPart k} {b : NodeKind} → ((q : ℕ) → EntriesListed img b q) → body_of k p ≡ body_meant img b
-    → Reads img (body_part k).read at p next → ReadsKind img k at b next
-reads-own {img} {k} {at} {next} {p} {b} n e h = record { reads = rw e at (reads_made _ (body_of k) h); entries = go next }
-  where
-    go : (c : Cursor) → IfAt c (EntriesListed img b)
-    go (C.At q) = n q
-    go (C.Stop f) = tt
+    module _ {m : InodeMeta} {middle : ℕ} (c : u ≡ Ok (m, middle)) {v : Result (NodeKind × ℕ) Fault} (k : ReadsKind img (kind_at n) middle v) where
+      pub body-stops : {r : Result (Node × ℕ) Fault} {f : Fault} → v ≡ Err f → r ≡ Err f → ReadsNode img at r
+      unfolding kind
+      body-stops b e =
+          let i = rw c at g in
+          let j = rw b at k in
+          stopped e (read-then _ (reads-coded 6 kind_at (rw d at h)) (read-then _ i.reads (read-stop _ j.reads)))
 
-pub reads-directory : {img : List ℕ} {at middle next : Cursor} {parent : ℕ} {es : Part} → Answers img (number_read edge) at 0 parent middle → ReadsNames img U.Inode middle es next
-    → ReadsKind img directory at (K.Directory parent es) next
-reads-directory h g =
-    record { reads = reads_made _ (body_of directory) (reads-pair _ _ h.reads g.reads); entries = g.listed }
+      pub reads-node : {b : NodeKind} {next : ℕ} → v ≡ Ok (b, next) → ReadsNode img at (Ok (record { meta = m; kind = b }, next))
+      unfolding kind
+      reads-node a =
+          let l = rw d at h in
+          let i = rw c at g in
+          let j = rw a at k in
+          let s : start ≡ at + 1 = reads_byte (omega arith) l in
+          let z : middle ≡ at + 1 + length (meta.write (meta_meant img m)) = omega (arith, reads-length meta meta-one l.within i.reads) in
+          record {
+            reads = whole (read-then _ (reads-coded 6 kind_at l) (read-then _ i.reads (reads_made _ (together (meta_meant img m)) j.reads)));
+            attributes = rw z at i.attributes;
+            entries = j.entries;
+          }
+
+pub ruleset nodes = (kind-stops, meta-stops, body-stops, reads-node, handed)
 
 -- the last of the kinds
 pub socket-kind : (n : ℕ) → 5 < n → kind_at n ≡ special socket

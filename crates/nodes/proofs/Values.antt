@@ -1,20 +1,21 @@
 -- How values are read: what is there or not, and lists that stay in the image.
 -- Assumes nothing.
-use Rattle.std.specs.Prelude.{None, Option, Some}
 use mathlib.Core.Path.{◌≡◌, refl, sym, ap, ◌∙◌}
 use mathlib.Core.List.{List}
+use mathlib.Core.Option.{Option, none, some}
+use Rattle.std.specs.Prelude.{Result, Ok, Err}
 use Prim.Native.Nat.{ℕ, ◌/◌, ◌%◌, ◌≤◌}
 use native.Mathlib.Omega.{arith}
 use lib.ListN.{length, drop, length-append, length-drop}
-use Rattle.wire.specs.declared.cursor.Cursor.{Cursor}
-use Rattle.wire.specs.declared.cursor.Cursor.TheVariants.{At, Stop}
-use Rattle.wire.specs.Parse.{Parsed, got, bind, bind-bind, never-got}
+use Rattle.wire.specs.declared.fault.Fault.{Fault}
+use Rattle.wire.specs.declared.text.Part.{Part}
+use Rattle.wire.specs.Parse.{Parsed, got, bind, bind-bind}
 use Rattle.wire.specs.Combinators.{opt-read}
 use Rattle.wire.specs.Number.{number_read, number-one}
 use Rattle.wire.specs.Orders.{by_bytes}
 use Rattle.wire.specs.Maps.{Map}
-use Rattle.wire.specs.Reading.{Reads, Answers, cursor_in}
-use Rattle.wire.proofs.Readers.{read-then, read-end}
+use Rattle.wire.specs.Reading.{Reads}
+use Rattle.wire.proofs.Readers.{read-then, read-stop, read-end, number-most, read-in, handed}
 use Rattle.image.specs.declared.name.Under.{Under}
 use Rattle.image.specs.declared.name.Under.TheVariants.{Change}
 use Rattle.image.specs.Under.{UnderName}
@@ -24,55 +25,61 @@ use Rattle.image.specs.FieldLayout.{word}
 use Rattle.image.specs.RecordLayout.{later_flags, flags, fields, fields_of}
 use Rattle.image.specs.Places.{Ends, maybe_read}
 use Rattle.image.proofs.Passing.{ends-got, ends-fault}
-use Rattle.nodes.specs.declared.part.Part.{Part}
+use Rattle.nodes.specs.declared.option.OptionPart.{OptionPart}
+use Rattle.nodes.specs.declared.option.OptionPart.TheVariants as P
 use Rattle.nodes.specs.declared.attr.Words.{Words}
+use Rattle.nodes.specs.Options.{word_of}
 use Rattle.nodes.specs.Attrs.{ReadsChanges, later_read}
-use Rattle.nodes.specs.Listed.{list_at, IfAt, by_name, ReadsNames, between, part_from}
+use Rattle.nodes.specs.Listed.{list_at, by_name, ReadsNames, part_from}
 use Rattle.nodes.proofs.OneForm.{by_name-one}
 
 -- a field that is there, or not
-module _ {A : Type 0} (p : List ℕ → Parsed A) {img : List ℕ} {bit : ℕ} where
-  pub reads_none : {at : Cursor} → bit ≡ 0 → cursor_in img at → Reads img (opt-read p bit) at None at
+module _ {A : Type 0} (p : List ℕ → Parsed A) {img : List ℕ} {bit at : ℕ} where
+  pub reads_none : bit ≡ 0 → at ≤ length img → Reads img (opt-read p bit) at (Ok (none, at))
   unfolding opt-read
-  reads_none e w = rw e (read-end img w)
+  reads_none e w = rw e (read-end w)
 
-  pub reads-some : {at next : Cursor} {a : A} → (bit ≡ 0 → ⊥) → bit ≤ 1 → Reads img p at a next → Reads img (opt-read p bit) at (Some a) next
+  pub reads-some : {o : Result (A × ℕ) Fault} {a : A} {m : ℕ} → (bit ≡ 0 → ⊥) → bit ≤ 1 → Reads img p at o → o ≡ Ok (a, m) → Reads img (opt-read p bit) at (Ok (some a, m))
   unfolding opt-read
-  reads-some n l h = let e : bit ≡ 1 = omega arith in rw e (read-then img p _ h (read-end img h.within))
+  reads-some n l h d = let e : bit ≡ 1 = omega arith in let g = rw d at h in rw e (read-then _ g (read-end g.within))
+
+  pub some-stops : {o : Result (A × ℕ) Fault} {f : Fault} → (bit ≡ 0 → ⊥) → bit ≤ 1 → Reads img p at o → o ≡ Err f → Reads img (opt-read p bit) at (Err f)
+  unfolding opt-read
+  some-stops n l h d = let e : bit ≡ 1 = omega arith in rw e (read-stop _ (rw d at h))
 
   -- after its bit
-  pub reads-maybe : {at mid next : Cursor} {o : Option A} → Answers img (number_read 1) at 0 bit mid → Reads img (opt-read p bit) mid o next
-      → Reads img (maybe_read p) at o next
-  reads-maybe h g = read-then img (number_read 1) (λ b r. opt-read p b r) h.reads g
+  pub reads-maybe : {o : Result (ℕ × ℕ) Fault} {m : ℕ} {r : Result (Option A × ℕ) Fault} → Reads img (number_read 1) at o → o ≡ Ok (bit, m) → Reads img (opt-read p bit) m r
+      → Reads img (maybe_read p) at r
+  reads-maybe h d g = read-then (λ b r. opt-read p b r) (rw d at h) g
+
+pub ruleset options = (reads_none, reads-some, some-stops, reads-maybe, number-most, read-in, handed)
 
 -- ---- fields one after the other
 
 -- the same bytes, made another value
-pub reads_made : {A B : Type 0} {img : List ℕ} (p : List ℕ → Parsed A) (f : A → B) {at next : Cursor} {a : A} → Reads img p at a next
-    → Reads img (λ s. bind (p s) (λ a r. got (f a) r)) at (f a) next
-reads_made {img = img} p f h = read-then img p _ h (read-end img h.within)
+pub reads_made : {A B : Type 0} {img : List ℕ} (p : List ℕ → Parsed A) (f : A → B) {at m : ℕ} {a : A} → Reads img p at (Ok (a, m))
+    → Reads img (λ s. bind (p s) (λ a r. got (f a) r)) at (Ok (f a, m))
+reads_made p f h = read-then _ h (read-end h.within)
 
-pub reads-pair : {A B : Type 0} {img : List ℕ} (p : List ℕ → Parsed A) (q : List ℕ → Parsed B) {at mid next : Cursor} {a : A} {b : B}
-    → Reads img p at a mid → Reads img q mid b next → Reads {A = A × B} img (λ s. bind (p s) (λ a r. bind (q r) (λ b t. got (a, b) t))) at (a, b) next
-reads-pair {img = img} p q {a = a} h g = read-then img p _ h (reads_made q (λ b. (a, b)) g)
+pub reads-pair : {A B : Type 0} {img : List ℕ} (p : List ℕ → Parsed A) (q : List ℕ → Parsed B) {at m n : ℕ} {a : A} {b : B}
+    → Reads img p at (Ok (a, m)) → Reads img q m (Ok (b, n)) → Reads {A = A × B} img (λ s. bind (p s) (λ a r. bind (q r) (λ b t. got (a, b) t))) at (Ok ((a, b), n))
+reads-pair p q {a = a} h g = read-then _ h (reads_made q (λ b. (a, b)) g)
 
 -- a reader that says the same of all bytes
-pub reads_same : {A : Type 0} {img : List ℕ} {p q : List ℕ → Parsed A} (at : Cursor) {a : A} {next : Cursor} → ((s : List ℕ) → p s ≡ q s) → Reads img p at a next
-    → Reads img q at a next
-reads_same {img = img} (At n) e h = record { same = sym (e (drop n img)) ∙ h.same; within = h.within }
-reads_same (Stop f) e h = record { same = h.same; within = h.within }
+pub reads_same : {A : Type 0} {img : List ℕ} {p q : List ℕ → Parsed A} {at : ℕ} {r : Result (A × ℕ) Fault} → ((s : List ℕ) → p s ≡ q s) → Reads img p at r → Reads img q at r
+reads_same {img = img} {at = at} e h = record { same = sym (e (drop at img)) ∙ h.same; within = h.within }
 
 -- a value is made of the first field, which says what follows
-pub reads-tag : {A B C : Type 0} {img : List ℕ} (p : List ℕ → Parsed A) (k : A → List ℕ → Parsed B) (j : B → List ℕ → Parsed C) {at mid next : Cursor} {a : A} {c : C}
-    → Reads img p at a mid → Reads img (λ s. bind (k a s) j) mid c next → Reads img (λ s. bind (bind (p s) k) j) at c next
-reads-tag {img = img} p k j {at} h g = reads_same at (λ s. sym (bind-bind (p s) k j)) (read-then img p _ h g)
+pub reads-tag : {A B C : Type 0} {img : List ℕ} (p : List ℕ → Parsed A) (k : A → List ℕ → Parsed B) (j : B → List ℕ → Parsed C) {at m : ℕ} {a : A} {r : Result (C × ℕ) Fault}
+    → Reads img p at (Ok (a, m)) → Reads img (λ s. bind (k a s) j) m r → Reads img (λ s. bind (bind (p s) k) j) at r
+reads-tag p k j h g = reads_same (λ s. sym (bind-bind (p s) k j)) (read-then _ h g)
 
 -- where it stands before what follows
-pub reads_first : {A B C : Type 0} {img : List ℕ} (p : List ℕ → Parsed A) (q : List ℕ → Parsed B) (j : A × B → List ℕ → Parsed C) {at mid next : Cursor} {a : A} {c : C}
-    → Reads img p at a mid → Reads img (λ s. bind (q s) (λ b t. j (a, b) t)) mid c next
-    → Reads img (λ s. bind (bind (p s) (λ a r. bind (q r) (λ b t. got (a, b) t))) j) at c next
-reads_first p q j {mid = mid} {a = a} h g =
-    reads-tag p (λ a r. bind (q r) (λ b t. got (a, b) t)) j h (reads_same mid (λ s. sym (bind-bind (q s) (λ b t. got (a, b) t) j)) g)
+pub reads_first : {A B C : Type 0} {img : List ℕ} (p : List ℕ → Parsed A) (q : List ℕ → Parsed B) (j : A × B → List ℕ → Parsed C) {at m : ℕ} {a : A} {r : Result (C × ℕ) Fault}
+    → Reads img p at (Ok (a, m)) → Reads img (λ s. bind (q s) (λ b t. j (a, b) t)) m r
+    → Reads img (λ s. bind (bind (p s) (λ a r. bind (q r) (λ b t. got (a, b) t))) j) at r
+reads_first p q j {a = a} h g =
+    reads-tag p (λ a r. bind (q r) (λ b t. got (a, b) t)) j h (reads_same (λ s. sym (bind-bind (q s) (λ b t. got (a, b) t) j)) g)
 
 -- ---- lists by name
 
@@ -80,66 +87,65 @@ reads_first p q j {mid = mid} {a = a} h g =
 written_one : (u : Under) (m : Map by_bytes (UnderName u)) → 1 ≤ length ((by_name u).write m)
 written_one u m = simp length-append (omega (arith, number-one (length m.rows)))
 
-module _ {img : List ℕ} (u : Under) where
-  -- so it ends after it starts
-  list-forth : {n q : ℕ} → Ends img (by_name u).read (At n) (At q) → n ≤ q
-  list-forth {n} {q} h =
-      let g = ends-got {p = (by_name u).read} {n = n} {q = q} h in
-      let f = ap length ((by_name-one u).forth (drop n img) g.0 (drop q img) g.1).0 in
-      let w = (by_name u).write g.0 in
-      let one : 1 ≤ length w = written_one u g.0 in
-      omega (arith, f, length-append w (drop q img), one, length-drop n img, length-drop q img, h.within)
+module _ {img : List ℕ} (u : Under) {n : ℕ} where
+  module _ {q : ℕ} (h : Ends img (by_name u).read n (Ok q)) where
+    -- so it ends after it starts
+    list-forth : n ≤ q
+    list-forth =
+        let g = ends-got h in
+        let f = ap length ((by_name-one u).forth (drop n img) g.0 (drop q img) g.1).0 in
+        let w = (by_name u).write g.0 in
+        let one : 1 ≤ length w = written_one u g.0 in
+        omega (arith, f, length-append w (drop q img), one, length-drop n img, length-drop q img, h.within)
 
-  list-is : {n q : ℕ} → Ends img (by_name u).read (At n) (At q) → (by_name u).read (drop n img) ≡ got (list_at img u (part_from n q)) (drop q img)
-  list-is {n} {q} h = let g = ends-got {p = (by_name u).read} {n = n} {q = q} h in rw g.1
+    list-is : (by_name u).read (drop n img) ≡ got (list_at img u (part_from n q)) (drop q img)
+    list-is = let g = ends-got h in rw g.1
 
-  pub reads-names : {at next : Cursor} {p : Part} → Ends img (by_name u).read at next → p ≡ between at next → ReadsNames img u at p next
-  reads-names {at} {next} h e = rw e (go at next h)
-    where
-      go : (a b : Cursor) → Ends img (by_name u).read a b → ReadsNames img u a (between a b) b
-      go (At n) (At q) h = record {
-        reads = record { same = list-is h; within = h.within };
-        listed = record { is = list-is h; ends = omega (arith, list-forth h); inside = h.within };
-        place = refl;
-      }
-      go (At n) (Stop f) h = record { reads = record { same = ends-fault {p = (by_name u).read} {n = n} {f = f} h; within = tt }; listed = tt; place = refl }
-      go (Stop f) (At q) h = never-got h.same
-      go (Stop f) (Stop g) h = let z = h.same in let y : f ≡ g = cc in record { reads = record { same = rw y; within = tt }; listed = tt; place = refl }
+  module _ {o : Result ℕ Fault} (h : Ends img (by_name u).read n o) where
+    pub reads-names : {q : ℕ} → o ≡ Ok q → ReadsNames img u n (Ok (part_from n q, q))
+    reads-names d =
+        let g = rw d at h in
+        record {
+          reads = record { same = list-is g; within = g.within };
+          listed = record { is = list-is g; ends = omega (arith, list-forth g); inside = g.within };
+          place = refl;
+        }
+
+    pub names-stop : {r : Result (Part × ℕ) Fault} {f : Fault} → o ≡ Err f → r ≡ Err f → ReadsNames img u n r
+    names-stop d e = rw e (record { reads = record { same = ends-fault (rw d at h); within = tt }; listed = tt; place = tt })
 
 -- ---- attribute changes
 
--- what holds at every place
-pub anywhere : {P : Type 0} (c : Cursor) → P → IfAt c (λ q. P)
-anywhere (At q) h = h
-anywhere (Stop f) h = tt
+module _ {img : List ℕ} {at bit : ℕ} where
+  pub no-changes : bit ≡ 0 → at ≤ length img → ReadsChanges img at bit (Ok (P.None, at))
+  no-changes e w = record { reads = reads_none _ e w; listed = tt }
 
-pub nowhere : (c : Cursor) → IfAt c (λ q. Unit {0})
-nowhere c = anywhere c tt
+  module _ {o : Result (Part × ℕ) Fault} (n : bit ≡ 0 → ⊥) (l : bit ≤ 1) (h : ReadsNames img Change at o) where
+    pub some-changes : {p : Part} {m : ℕ} → o ≡ Ok (p, m) → ReadsChanges img at bit (Ok (P.Some p, m))
+    some-changes d = let g = rw d at h in record { reads = reads-some _ n l g.reads refl; listed = g.listed }
 
-module _ {img : List ℕ} {at : Cursor} {bit : ℕ} where
-  pub no-changes : bit ≡ 0 → cursor_in img at → ReadsChanges img at bit None at
-  no-changes e w = record { reads = reads_none _ e w; listed = nowhere at }
+    pub changes-stop : {r : Result (OptionPart × ℕ) Fault} {f : Fault} → o ≡ Err f → r ≡ Err f → ReadsChanges img at bit r
+    changes-stop d e = let g = rw d at h in rw e (record { reads = some-stops _ n l g.reads refl; listed = tt })
 
-  pub some-changes : {next : Cursor} {p : Part} → (bit ≡ 0 → ⊥) → bit ≤ 1 → ReadsNames img Change at p next → ReadsChanges img at bit (Some p) next
-  some-changes n l h = record { reads = reads-some _ n l h.reads; listed = h.listed }
+pub ruleset changes_rules = (no-changes, some-changes, changes-stop, handed)
 
 -- ---- the mask and the fields
 
 abbrev bit : ℕ → List ℕ → Parsed (Option ℕ)
 bit b = opt-read (number_read 4294967295) (b % 2)
 
-module _ {img : List ℕ} {m : ℕ} {f : Fields} {at c0 c1 c2 c3 c4 next : Cursor} where
-  pub reads-fields : (w : Words) → Answers img (number_read 511) at 0 m c0 → Reads img (bit m) c0 w.mode c1 → Reads img (bit (m / 2)) c1 w.uid c2
-      → Reads img (bit (m / 2 / 2)) c2 w.gid c3 → Reads img (bit (m / 2 / 2 / 2)) c3 w.nlink c4
-      → Reads img (later_read (m / 2 / 2 / 2 / 2) w) c4 f next → Reads img fields.read at f next
+module _ {img : List ℕ} {m at c0 c1 c2 c3 c4 : ℕ} {r : Result (Fields × ℕ) Fault} where
+  pub reads-fields : (w : Words) → Reads img (number_read 511) at (Ok (m, c0)) → Reads img (bit m) c0 (Ok (word_of w.mode, c1))
+      → Reads img (bit (m / 2)) c1 (Ok (word_of w.uid, c2)) → Reads img (bit (m / 2 / 2)) c2 (Ok (word_of w.gid, c3))
+      → Reads img (bit (m / 2 / 2 / 2)) c3 (Ok (word_of w.nlink, c4)) → Reads img (later_read (m / 2 / 2 / 2 / 2) w) c4 r → Reads img fields.read at r
   unfolding fields
   reads-fields w h x y z n l =
       let k1 = flag word later_flags in
       let k2 = flag word k1 in
       let k3 = flag word k2 in
-      reads-tag (number_read 511) (λ m r. (flags.at m).read r) (λ p r. got (fields_of p) r) h.reads
+      reads-tag (number_read 511) (λ m r. (flags.at m).read r) (λ p r. got (fields_of p) r) h
       (reads_first (bit m) (k3.at (m / 2)).read (λ p r. got (fields_of p) r) x
-      (reads_first (bit (m / 2)) (k2.at (m / 2 / 2)).read (λ p r. got (fields_of (w.mode, p)) r) y
-      (reads_first (bit (m / 2 / 2)) (k1.at (m / 2 / 2 / 2)).read (λ p r. got (fields_of (w.mode, (w.uid, p))) r) z
+      (reads_first (bit (m / 2)) (k2.at (m / 2 / 2)).read (λ p r. got (fields_of (word_of w.mode, p)) r) y
+      (reads_first (bit (m / 2 / 2)) (k1.at (m / 2 / 2 / 2)).read (λ p r. got (fields_of (word_of w.mode, (word_of w.uid, p))) r) z
       (reads_first (bit (m / 2 / 2 / 2)) (later_flags.at (m / 2 / 2 / 2 / 2)).read
-      (λ p r. got (fields_of (w.mode, (w.uid, (w.gid, p)))) r) n l))))
+      (λ p r. got (fields_of (word_of w.mode, (word_of w.uid, (word_of w.gid, p)))) r) n l))))

@@ -1,17 +1,19 @@
 -- Lists that stay in the image. Document 01: "`HashMap`, `BTreeMap`, `Vec` become sorted lists in the image."
-use Rattle.std.specs.Prelude.{◌≡◌, refl, List, ℕ, ◌+◌, ◌-◌, ◌≤◌, length, drop, None, Option, Some}
-use Rattle.wire.specs.declared.cursor.Cursor.{Cursor}
-use Rattle.wire.specs.declared.cursor.Cursor.TheVariants as C
+use Rattle.std.specs.Prelude.{◌≡◌, refl, List, ℕ, ◌+◌, ◌-◌, ◌≤◌, length, drop, Result, IfOk}
+use Rattle.std.proofs.Math.Option.{Option, none, some}
+use Rattle.wire.specs.declared.fault.Fault.{Fault}
 use Rattle.wire.specs.Parse.{Parsed, fault, got}
 use Rattle.wire.specs.Codec.{Codec}
 use Rattle.wire.specs.Orders.{by_bytes}
 use Rattle.wire.specs.Maps.{Map, empty}
 use Rattle.wire.specs.Lists.{rising, last_count}
-use Rattle.wire.specs.Reading.{Reads}
+use Rattle.wire.specs.Reading.{Reads, meant}
 use Rattle.image.specs.declared.name.Under.{Under}
 use Rattle.image.specs.FieldLayout.{name}
 use Rattle.image.specs.Under.{UnderName, under}
-use Rattle.nodes.specs.declared.part.Part.{Part}
+use Rattle.wire.specs.declared.text.Part.{Part}
+use Rattle.nodes.specs.declared.option.OptionPart.{OptionPart}
+use Rattle.nodes.specs.declared.option.OptionPart.TheVariants as P
 
 abbrev pub read_or : {A : Type 0} → A → Parsed A → A
 read_or z (fault f) = z
@@ -26,9 +28,9 @@ module _ (img : List ℕ) (u : Under) where
   abbrev pub list_at : Part → Map by_bytes (UnderName u)
   list_at p = read_or (empty by_bytes) ((by_name u).read (drop p.start img))
 
-  abbrev pub list_of : Option Part → Option (Map by_bytes (UnderName u))
-  list_of (Some p) = Some (list_at p)
-  list_of None = None
+  abbrev pub list_of : OptionPart → Option (Map by_bytes (UnderName u))
+  list_of (P.Some p) = some (list_at p)
+  list_of P.None = none
 
   -- there is a list at the place, and it ends at `end`
   pub record Listed (p : Part) (end : ℕ) : Type 0 where
@@ -36,25 +38,16 @@ module _ (img : List ℕ) (u : Under) where
     pub ends : p.start + p.length ≡ end
     pub inside : end ≤ length img
 
-  abbrev pub ListedIf : Option Part → ℕ → Type 0
-  ListedIf (Some p) end = Listed p end
-  ListedIf None end = Unit {0}
-
--- what holds of a reading that ends at a place; nothing, where it stopped
-abbrev pub IfAt : Cursor → (ℕ → Type 0) → Type 0
-IfAt (C.At q) P = P q
-IfAt (C.Stop f) P = Unit {0}
+  abbrev pub ListedIf : OptionPart → ℕ → Type 0
+  ListedIf (P.Some p) end = Listed p end
+  ListedIf P.None end = Unit {0}
 
 -- the part from one place to another
 abbrev pub part_from : ℕ → ℕ → Part
 part_from start end = record { start = start; «length» = end - start }
 
-abbrev pub between : Cursor → Cursor → Part
-between (C.At n) (C.At q) = part_from n q
-between (C.At n) (C.Stop f) = part_from 0 0
-between (C.Stop f) to = part_from 0 0
-
-pub record ReadsNames (img : List ℕ) (u : Under) (at : Cursor) (p : Part) (next : Cursor) : Type 0 where
-  pub reads : Reads img (by_name u).read at (list_at img u p) next
-  pub listed : IfAt next (Listed img u p)
-  pub place : p ≡ between at next
+-- a list was read, which stands from `at` to its end
+pub record ReadsNames (img : List ℕ) (u : Under) (at : ℕ) (r : Result (Part × ℕ) Fault) : Type 0 where
+  pub reads : Reads img (by_name u).read at (meant (list_at img u) r)
+  pub listed : IfOk r (λ x. Listed img u x.0 x.1)
+  pub place : IfOk r (λ x. x.0 ≡ part_from at x.1)

@@ -1,16 +1,15 @@
 -- What a node of the base by value means. Document 01: "then parent and entries (name, inode) rising, or size, or target, or device, or
 -- nothing, by kind"; "texts as places beside it".
-use Rattle.std.specs.Prelude.{◌≡◌, List, ℕ, ◌+◌, length}
-use Rattle.wire.specs.declared.cursor.Cursor.{Cursor}
-use Rattle.wire.specs.declared.cursor.Cursor.TheVariants as C
+use Rattle.std.specs.Prelude.{List, ℕ, ◌+◌, length, Result, IfOk}
+use Rattle.wire.specs.declared.fault.Fault.{Fault}
 use Rattle.wire.specs.Parse.{Parsed, got, bind}
-use Rattle.wire.specs.Reading.{Reads}
+use Rattle.wire.specs.Reading.{Reads, meant}
 use Rattle.image.specs.Meaning as M
 use Rattle.image.specs.Meaning.{Meta, Body, Kind, directory, file, symlink, special, pipe, character, block, socket}
 use Rattle.image.specs.declared.name.Under.TheVariants as U
 use Rattle.image.specs.NodeLayout.{meta, body_part, body_of, node}
 use Rattle.nodes.specs.Options.{text_at, Inside}
-use Rattle.nodes.specs.Listed.{list_at, Listed, IfAt}
+use Rattle.nodes.specs.Listed.{list_at, Listed}
 use Rattle.nodes.specs.declared.node.InodeMeta.{InodeMeta}
 use Rattle.nodes.specs.declared.node.NodeKind.{NodeKind}
 use Rattle.nodes.specs.declared.node.NodeKind.TheVariants as K
@@ -58,17 +57,16 @@ abbrev pub body_read : Kind → List ℕ → Parsed Body
 body_read k s = bind ((body_part k).read s) (λ b r. got (body_of k b) r)
 
 -- the attributes end where the meta does
-pub record ReadsMeta (img : List ℕ) (at : Cursor) (m : InodeMeta) (next : Cursor) : Type 0 where
-  pub reads : Reads img meta.read at (meta_meant img m) next
-  pub attributes : IfAt next (Listed img U.Value m.xattrs)
+pub record ReadsMeta (img : List ℕ) (at : ℕ) (r : Result (InodeMeta × ℕ) Fault) : Type 0 where
+  pub reads : Reads img meta.read at (meant (meta_meant img) r)
+  pub attributes : IfOk r (λ x. Listed img U.Value x.0.xattrs x.1)
 
-pub record ReadsKind (img : List ℕ) (k : Kind) (at : Cursor) (b : NodeKind) (next : Cursor) : Type 0 where
-  pub reads : Reads img (body_read k) at (body_meant img b) next
-  pub entries : IfAt next (EntriesListed img b)
+pub record ReadsKind (img : List ℕ) (k : Kind) (at : ℕ) (r : Result (NodeKind × ℕ) Fault) : Type 0 where
+  pub reads : Reads img (body_read k) at (meant (body_meant img) r)
+  pub entries : IfOk r (λ x. EntriesListed img x.0 x.1)
 
 -- The node was read. Its kind is one byte, and its attributes end where the meta after the kind does; entries are the last of it.
-pub record ReadsNode (img : List ℕ) (at : Cursor) (n : Node) (next : Cursor) : Type 0 where
-  pub reads : Reads img node.read at (node_meant img n) next
-  pub attributes : (p : ℕ) → at ≡ C.At p
-      → IfAt next (λ q. Listed img U.Value n.meta.xattrs (p + 1 + length (meta.write (meta_meant img n.meta))))
-  pub entries : IfAt next (EntriesListed img n.kind)
+pub record ReadsNode (img : List ℕ) (at : ℕ) (r : Result (Node × ℕ) Fault) : Type 0 where
+  pub reads : Reads img node.read at (meant (node_meant img) r)
+  pub attributes : IfOk r (λ x. Listed img U.Value x.0.meta.xattrs (at + 1 + length (meta.write (meta_meant img x.0.meta))))
+  pub entries : IfOk r (λ x. EntriesListed img x.0.kind x.1)

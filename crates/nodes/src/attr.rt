@@ -1,54 +1,37 @@
 // The changes of attributes that a delta carries.
-ghost use Rattle.std.specs.Prelude.{◌≤◌, ◌≡◌};
-ghost use Rattle.wire.specs.Reading.{cursor_in};
+ghost use Rattle.std.specs.Prelude.{◌≤◌, ◌≡◌, length};
 ghost use Rattle.nodes.specs.Attrs.{attr_delta, ReadsAttr, ReadsLater, ReadsChanges};
 
-use wire::time::Time;
-use crate::option::{OptionPartRead, read_time_if, read_u32_if};
-use crate::part::{Part, read_names};
+use crate::option::{OptionPart, OptionTime, OptionU32, read_time_if, read_u32_if};
+use crate::part::read_names;
 use image::name::Under;
-use wire::cursor::Cursor;
+use wire::fault::Fault;
 use wire::number::read_number;
 
 // Each field is there, or not. The attribute changes are a list in the image.
 #[derive(Clone, Copy)]
 pub struct AttrDelta {
-    pub mode: Option<u32>,
-    pub uid: Option<u32>,
-    pub gid: Option<u32>,
-    pub nlink: Option<u32>,
-    pub atime: Option<Time>,
-    pub mtime: Option<Time>,
-    pub ctime: Option<Time>,
-    pub created_at: Option<Time>,
-    pub xattrs: Option<Part>,
+    pub mode: OptionU32,
+    pub uid: OptionU32,
+    pub gid: OptionU32,
+    pub nlink: OptionU32,
+    pub atime: OptionTime,
+    pub mtime: OptionTime,
+    pub ctime: OptionTime,
+    pub created_at: OptionTime,
+    pub xattrs: OptionPart,
 }
 
-#[derive(Clone, Copy)]
-pub struct AttrDeltaRead {
-    pub attr_delta: AttrDelta,
-    pub next: Cursor,
-}
-
-// The mask at `at` and the fields that it says are there.
-pub fn read_attr_delta(img: &[u8], at: Cursor) -> AttrDeltaRead
-    ensures { ReadsAttr img.now at result.attr_delta result.next }
+// The mask at `at` and the fields that it says are there, and the place after them.
+#[tactic(auto, unfolding(image::specs::RecordLayout::fields))]
+pub fn read_attr_delta(img: &[u8], at: usize) -> Result<(AttrDelta, usize), Fault>
+    ensures { ReadsAttr img.now at result }
 {
-    let mask = read_number(img, at, 511);
-    let start = mask.next;
-    let bits = mask.value;
-    let first = read_u32_if(img, start, bits % 2);
-    let mode = first.option;
-    let owner = first.next;
-    let second = read_u32_if(img, owner, bits / 2 % 2);
-    let uid = second.option;
-    let group = second.next;
-    let third = read_u32_if(img, group, bits / 2 / 2 % 2);
-    let gid = third.option;
-    let links = third.next;
-    let fourth = read_u32_if(img, links, bits / 2 / 2 / 2 % 2);
-    let nlink = fourth.option;
-    let times = fourth.next;
+    let (bits, start) = read_number(img, at, 511)?;
+    let (mode, owner) = read_u32_if(img, start, bits % 2)?;
+    let (uid, group) = read_u32_if(img, owner, bits / 2 % 2)?;
+    let (gid, links) = read_u32_if(img, group, bits / 2 / 2 % 2)?;
+    let (nlink, times) = read_u32_if(img, links, bits / 2 / 2 / 2 % 2)?;
     let words = Words {
         mode,
         uid,
@@ -61,55 +44,42 @@ pub fn read_attr_delta(img: &[u8], at: Cursor) -> AttrDeltaRead
 // The first four fields.
 #[derive(Clone, Copy)]
 pub struct Words {
-    pub mode: Option<u32>,
-    pub uid: Option<u32>,
-    pub gid: Option<u32>,
-    pub nlink: Option<u32>,
+    pub mode: OptionU32,
+    pub uid: OptionU32,
+    pub gid: OptionU32,
+    pub nlink: OptionU32,
 }
 
 // The times and the attribute changes that the upper bits of a mask say are there, after the first four fields.
-fn read_later(img: &[u8], at: Cursor, bits: u64, words: Words) -> AttrDeltaRead
-    requires { (bits ≤ 31) × cursor_in img.now at }
-    ensures { ReadsLater img.now at bits words result.attr_delta result.next }
+fn read_later(img: &[u8], at: usize, bits: u64, words: Words) -> Result<(AttrDelta, usize), Fault>
+    requires { (bits ≤ 31) × (at ≤ length img.now) }
+    ensures { ReadsLater img.now at bits words result }
 {
-    let first = read_time_if(img, at, bits % 2);
-    let atime = first.option;
-    let modified = first.next;
-    let second = read_time_if(img, modified, bits / 2 % 2);
-    let mtime = second.option;
-    let changed = second.next;
-    let third = read_time_if(img, changed, bits / 2 / 2 % 2);
-    let ctime = third.option;
-    let created = third.next;
-    let fourth = read_time_if(img, created, bits / 2 / 2 / 2 % 2);
-    let created_at = fourth.option;
-    let attributes = fourth.next;
+    let (atime, modified) = read_time_if(img, at, bits % 2)?;
+    let (mtime, changed) = read_time_if(img, modified, bits / 2 % 2)?;
+    let (ctime, created) = read_time_if(img, changed, bits / 2 / 2 % 2)?;
+    let (created_at, attributes) = read_time_if(img, created, bits / 2 / 2 / 2 % 2)?;
     let times = Times {
         atime,
         mtime,
         ctime,
         created_at,
     };
-    let list = read_changes_if(img, attributes, bits / 2 / 2 / 2 / 2);
-    let xattrs = list.option;
-    let next = list.next;
-    AttrDeltaRead {
-        attr_delta: attr_delta_of(words, times, xattrs),
-        next,
-    }
+    let (xattrs, next) = read_changes_if(img, attributes, bits / 2 / 2 / 2 / 2)?;
+    Ok((attr_delta_of(words, times, xattrs), next))
 }
 
 // The four times.
 #[derive(Clone, Copy)]
 pub struct Times {
-    pub atime: Option<Time>,
-    pub mtime: Option<Time>,
-    pub ctime: Option<Time>,
-    pub created_at: Option<Time>,
+    pub atime: OptionTime,
+    pub mtime: OptionTime,
+    pub ctime: OptionTime,
+    pub created_at: OptionTime,
 }
 
 // The fields, put together.
-fn attr_delta_of(words: Words, times: Times, xattrs: Option<Part>) -> AttrDelta
+fn attr_delta_of(words: Words, times: Times, xattrs: OptionPart) -> AttrDelta
     ensures { result ≡ attr_delta words times xattrs }
 {
     let mode = words.mode;
@@ -133,22 +103,15 @@ fn attr_delta_of(words: Words, times: Times, xattrs: Option<Part>) -> AttrDelta
     }
 }
 
-// Attribute changes that are there if the bit is 1.
-fn read_changes_if(img: &[u8], at: Cursor, bit: u64) -> OptionPartRead
-    requires { (bit ≤ 1) × cursor_in img.now at }
-    ensures { ReadsChanges img.now at bit result.option result.next }
+// Attribute changes that are there if the bit is 1, and the place after them.
+#[tactic(auto, using(crate::proofs::Values::changes_rules))]
+fn read_changes_if(img: &[u8], at: usize, bit: u64) -> Result<(OptionPart, usize), Fault>
+    requires { (bit ≤ 1) × (at ≤ length img.now) }
+    ensures { ReadsChanges img.now at bit result }
 {
     if bit == 0 {
-        return OptionPartRead {
-            option: None,
-            next: at,
-        };
+        return Ok((OptionPart::None, at));
     }
-    let list = read_names(img, at, Under::Change);
-    let part = list.part;
-    let next = list.next;
-    OptionPartRead {
-        option: Some(part),
-        next,
-    }
+    let (list, next) = read_names(img, at, Under::Change)?;
+    Ok((OptionPart::Some(list), next))
 }

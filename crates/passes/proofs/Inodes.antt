@@ -1,63 +1,42 @@
--- An inode that is after the one before it, and the place of what stands under the one sought.
+-- The place of what stands under the inode sought.
 -- Assumes nothing.
-use Rattle.std.specs.Prelude.{None, Option, Some}
 use mathlib.Core.Path.{◌≡◌, refl, sym, ◌∙◌}
 use mathlib.Core.Bool.{Bool, true, false}
 use mathlib.Core.List.{List}
+use mathlib.Core.Option.{Option, none, some}
 use Prim.Native.Nat.{ℕ, zero, suc, ◌-◌, ◌≤◌, ◌<◌}
 use native.Mathlib.Omega.{arith}
+use Rattle.std.specs.Prelude.{Result, Ok, Err, Some, None}
+use Rattle.std.specs.Prelude.{Option as Maybe}
+use Rattle.std.specs.Option.{option_or}
+use Rattle.std.specs.Bool.{then_some}
 use lib.Dec.{eqb}
 use lib.ListN.{length, drop, length-drop}
 use borrow.Author.Tests.{eqb-true, eqb-false}
-use Rattle.wire.specs.declared.cursor.Fault.{Fault}
-use Rattle.wire.specs.declared.cursor.Fault.TheVariants.{Malformed}
-use Rattle.wire.specs.declared.cursor.Cursor.{Cursor}
-use Rattle.wire.specs.declared.cursor.Cursor.TheVariants.{At, Stop}
-use Rattle.wire.specs.declared.number.NumberRead.{NumberRead}
-use Rattle.std.specs.declared.cmp.Ordering.{Ordering}
-use Rattle.std.specs.declared.cmp.Ordering.TheVariants.{Less, Equal, Greater}
+use Rattle.wire.specs.declared.fault.Fault.{Fault}
+use Rattle.wire.specs.declared.fault.Fault.TheVariants.{Malformed}
+use Rattle.wire.specs.declared.order.Ordering.{Ordering}
+use Rattle.wire.specs.declared.order.Ordering.TheVariants.{Less, Equal, Greater}
 use Rattle.wire.specs.Parse.{Parsed, fault, got, bind, check, never-got}
 use Rattle.wire.specs.Codec.{Codec}
 use Rattle.wire.specs.Combinators.{only}
 use Rattle.wire.specs.Number.{edge, number_read}
-use Rattle.wire.specs.Orders.{by_number, cmp_n, Says, says, less-N, equal-N}
+use Rattle.wire.specs.Orders.{by_number, cmp_n, Says, says, equal-N}
 use Rattle.wire.specs.Rows.{choose}
-use Rattle.wire.specs.Lists.{after, is_less, last_count}
-use Rattle.wire.specs.Reading.{Answers, run, give, cursor_in, no_number}
+use Rattle.wire.specs.Lists.{after, last_count}
+use Rattle.wire.specs.Reading.{Reads}
 use Rattle.image.specs.FieldLayout.{inode}
-use Rattle.passes.specs.Held.{or_here}
-use Rattle.image.specs.Places.{Ends, inode_before, place_under, place_in}
-use Rattle.image.proofs.Passing.{ends-got, only_kept, only-stopped, only-refused, stops-free}
-
-module _ {img : List ℕ} {at next : Cursor} {n : ℕ} (h : Answers img (number_read edge) at 0 n next) where
-  pub inode-first : (any : Bool) (before : ℕ) → any ≡ false → Answers img (only (after by_number (inode_before any before)) inode).read at 0 n next
-  inode-first any before e = rw e (record { reads = only_kept inode (after by_number None) h.reads refl; blank = h.blank })
-
-  pub inode-stops : (any : Bool) (before : ℕ) {f : Fault} → next ≡ Stop f → Answers img (only (after by_number (inode_before any before)) inode).read at 0 n next
-  inode-stops any before e = record { reads = only-stopped inode (after by_number (inode_before any before)) h.reads e; blank = h.blank }
-
-  module _ (any : Bool) (before : ℕ) (e : any ≡ true) where
-    pub inode-follows : before < n → Answers img (only (after by_number (inode_before any before)) inode).read at 0 n next
-    inode-follows l = rw e (record { reads = only_kept inode (after by_number (Some before)) h.reads (rw (less-N before n l)); blank = h.blank })
-
-    not-less : n ≤ before → is_less (cmp_n before n) ≡ false
-    not-less l = go (cmp_n before n) (says before n)
-      where
-        go : (o : Ordering) → Says before n o → is_less o ≡ false
-        go Less k = absurd (omega arith)
-        go Equal k = refl
-        go Greater k = refl
-
-    pub inode-refused : {q : ℕ} {r : NumberRead} → next ≡ At q → n ≤ before → r ≡ no_number Malformed
-        → Answers img (only (after by_number (inode_before any before)) inode).read at 0 r.value r.next
-    inode-refused d l f =
-        rw (e, f) (record { reads = stops-free 0 (only-refused inode (after by_number (Some before)) h.reads d (not-less l)); blank = refl })
-
--- ---- the place of what stands under the inode sought
+use Rattle.passes.specs.declared.inode.Held.{Held}
+use Rattle.passes.specs.Held.{held, place_of, Finds, FindsRows}
+use Rattle.image.specs.Places.{Ends, place_under}
+use Rattle.wire.proofs.Readers.{handed}
+use Rattle.image.proofs.OneForm.{inode-one}
+use Rattle.image.proofs.Passing.{ends-got, ends-list, ends-unlisted, Passed, passed-unkeyed, passed-stop, passed-all}
+use Rattle.passes.proofs.OneForm.{held-one}
 
 abbrev first : Option ℕ → Option ℕ → Option ℕ
-first None o = o
-first (Some p) o = Some p
+first none o = o
+first (some p) o = some p
 
 place-left : (img : List ℕ) (m : ℕ) → m ≤ length img → length img - length (drop m img) ≡ m
 place-left img m h = omega (arith, length-drop m img)
@@ -79,63 +58,78 @@ module _ {A : Type 0} (value : Codec A) (img : List ℕ) (sought : ℕ) where
 
   -- one row more
   place-step : (n : ℕ) (s : List ℕ) {r q : List ℕ} {j : ℕ} {v : A} → 0 < n → number_read edge s ≡ got j r → value.read r ≡ got v q
-      → placed n s ≡ choose (cmp_n sought j) (Some (length img - length r)) (placed (n - 1) q)
+      → placed n s ≡ choose (cmp_n sought j) (some (length img - length r)) (placed (n - 1) q)
   unfolding place_under
   place-step zero s h e d = absurd (omega arith)
   place-step (suc n) s h e d = let z : suc n - 1 ≡ n = omega arith in rw (e, d, z)
 
   -- the place found, or the one still to be found
-  pub record Seeking (start n : ℕ) (place : Option ℕ) (here left : ℕ) : Type 0 where
-    pub same : first place (placed left (drop here img)) ≡ placed n (drop start img)
+  pub record Seeking (start n : ℕ) (place : Maybe ℕ) (here left : ℕ) : Type 0 where
+    pub same : first (place_of place) (placed left (drop here img)) ≡ placed n (drop start img)
 
-  pub seeking-start : {start n : ℕ} → Seeking start n None start n
-  seeking-start = record { same = refl }
+  pub seeking-start : {start n left : ℕ} → left ≡ n → Seeking start n None start left
+  seeking-start e = rw e (record { same = refl })
 
-  chosen : (place : Option ℕ) (m : ℕ) (b : Bool) (j : ℕ) (rest : Option ℕ) → eqb j sought ≡ b
-      → first place (choose (cmp_n sought j) (Some m) rest) ≡ first (or_here place (At m) b) rest
+  chosen : (place : Maybe ℕ) (m : ℕ) (b : Bool) (j : ℕ) (rest : Option ℕ) → eqb j sought ≡ b
+      → first (place_of place) (choose (cmp_n sought j) (some m) rest) ≡ first (place_of (option_or place (then_some b m))) rest
   chosen (Some p) m b j rest e = refl
   chosen None m true j rest e =
       let z : j ≡ sought = eqb-true j sought e in
       rw (equal-N sought j (omega arith) (omega arith))
   chosen None m false j rest e = go (cmp_n sought j) (says sought j)
     where
-      go : (o : Ordering) → Says sought j o → choose o (Some m) rest ≡ rest
+      go : (o : Ordering) → Says sought j o → choose o (some m) rest ≡ rest
       go Less k = refl
       go Equal k = absurd (eqb-false j sought e (sym k))
       go Greater k = refl
 
-  module _ {start n here left : ℕ} {place : Option ℕ} (w : Seeking start n place here left) where
-    pub seeking-on : (prev : Option ℕ) {j q : ℕ} {mid next : Cursor} {found : Option ℕ} {b : Bool} → 0 < left
-        → Answers img (only (after by_number prev) inode).read (At here) 0 j mid → Ends img value.read mid next → next ≡ At q
-        → eqb j sought ≡ b → found ≡ or_here place mid b → Seeking start n found q (left - 1)
-    seeking-on prev {j} {q} {mid} {b = b} h a g e d f = rw f (record { same = go mid a.reads.same a.reads.within (rw e at g) })
-      where
-        go : (m : Cursor) → (only (after by_number prev) inode).read (drop here img) ≡ give img j m → cursor_in img m → Ends img value.read m (At q)
-            → first (or_here place m b) (placed (left - 1) (drop q img)) ≡ placed n (drop start img)
-        go (At m) c k v =
-            let u = ends-got v in
-            sym (chosen place m b j (placed (left - 1) (drop q img)) d)
-            ∙ sym (rw (place-step left (drop here img) h (key-read prev (drop here img) c) u.1, place-left img m k) refl)
-            ∙ w.same
-        go (Stop y) c k v = never-got v.same
+  module _ {start n here left : ℕ} {place : Maybe ℕ} (w : Seeking start n place here left) where
+    pub seeking-on : (prev : Option ℕ) {j m q rest : ℕ} {here_found found : Maybe ℕ} → 0 < left → Reads img (only (after by_number prev) inode).read here (Ok (j, m))
+        → Ends img value.read m (Ok q) → here_found ≡ then_some (eqb j sought) m → found ≡ option_or place here_found → rest ≡ left - 1 → Seeking start n found q rest
+    seeking-on prev {j} {m} {q} h a g d f z =
+        let u = ends-got g in
+        rw (f, d, z) (record {
+          same =
+              sym (chosen place m (eqb j sought) j (placed (left - 1) (drop q img)) refl)
+              ∙ sym (rw (place-step left (drop here img) h (key-read prev (drop here img) a.same) u.1, place-left img m a.within) refl)
+              ∙ w.same;
+        })
 
-    none_left : (k : ℕ) → k ≤ 0 → first place (placed k (drop here img)) ≡ place
+    none_left : (k : ℕ) → k ≤ 0 → first (place_of place) (placed k (drop here img)) ≡ place_of place
     unfolding place_under
     none_left zero h = go place
       where
-        go : (p : Option ℕ) → first p None ≡ p
+        go : (p : Maybe ℕ) → first (place_of p) none ≡ place_of p
         go (Some x) = refl
         go None = refl
     none_left (suc k) h = absurd (omega arith)
 
-    pub seeking-end : left ≤ 0 → place ≡ placed n (drop start img)
+    pub seeking-end : left ≤ 0 → place_of place ≡ placed n (drop start img)
     seeking-end h = sym (none_left left h) ∙ w.same
 
-  -- the place in the whole list is that in its rows
-  pub place-listed : {at : Cursor} {n start : ℕ} {mid : Cursor} → Answers img (number_read last_count) at 0 n mid → mid ≡ At start
-      → place_in by_number inode value img sought at ≡ placed n (drop start img)
-  place-listed {at} {n} {start} h e = go at (rw e at h).reads.same
-    where
-      go : (c : Cursor) → run img (number_read last_count) c ≡ got n (drop start img) → place_in by_number inode value img sought c ≡ placed n (drop start img)
-      go (At i) d = rw d
-      go (Stop f) d = never-got d
+-- ---- a list, and its rows
+
+module _ {img : List ℕ} {h : Held} {sought : ℕ} where
+  module _ {at : ℕ} {o : Result (ℕ × ℕ) Fault} (c : Reads img (number_read last_count) at o) where
+    pub finds-list : {n first : ℕ} {r : Result (Maybe ℕ × ℕ) Fault} → o ≡ Ok (n, first) → FindsRows img h sought first n r → Finds img h sought at r
+    finds-list {r = r} d g = record {
+      ends = ends-list by_number inode (held h) last_count refl inode-one (held-one h) c d g.ends;
+      found = let e = rw d at c in rw (e.same) g.found;
+    }
+
+    pub finds-uncounted : {r : Result (Maybe ℕ × ℕ) Fault} {f : Fault} → o ≡ Err f → r ≡ Err f → Finds img h sought at r
+    finds-uncounted d e = rw e (record { ends = ends-unlisted by_number inode (held h) last_count refl inode-one (held-one h) c d refl; found = tt })
+
+  module _ {first n here left : ℕ} {prev : Option ℕ} (p : Passed by_number inode (held h) img first n prev here left) where
+    pub finds-all : {place : Maybe ℕ} → Seeking (held h) img sought first n place here left → left ≤ 0 → FindsRows img h sought first n (Ok (place, here))
+    finds-all s l = record { ends = passed-all p l; found = seeking-end (held h) img sought s l }
+
+    module _ (l : 0 < left) {o : Result (ℕ × ℕ) Fault} (a : Reads img (only (after by_number prev) inode).read here o) where
+      pub finds-unkeyed : {r : Result (Maybe ℕ × ℕ) Fault} {f : Fault} → o ≡ Err f → r ≡ Err f → FindsRows img h sought first n r
+      finds-unkeyed d e = rw e (record { ends = passed-unkeyed p l a d refl; found = tt })
+
+      pub finds-stop : {k m : ℕ} → o ≡ Ok (k, m) → {u : Result ℕ Fault} → Ends img (held h).read m u → {r : Result (Maybe ℕ × ℕ) Fault} {f : Fault} → u ≡ Err f → r ≡ Err f
+          → FindsRows img h sought first n r
+      finds-stop d b c e = rw e (record { ends = passed-stop p l a d b c refl; found = tt })
+
+pub ruleset finds = (finds-list, finds-uncounted, finds-all, finds-unkeyed, finds-stop, handed)

@@ -1,7 +1,8 @@
 -- The two sorts of lists by inode, and what finding an inode in one answers.
-use Rattle.std.specs.Prelude.{◌≡◌, refl, Bool, true, false, List, ℕ, length, drop, None, Option, Some}
-use Rattle.wire.specs.declared.cursor.Cursor.{Cursor}
-use Rattle.wire.specs.declared.cursor.Cursor.TheVariants as C
+use Rattle.std.specs.Prelude.{◌≡◌, refl, List, ℕ, length, drop, Result, Ok, Err, Some, None}
+use Rattle.std.proofs.Math.Option.{Option, none, some}
+use Rattle.std.specs.Prelude.{Option as Maybe}
+use Rattle.wire.specs.declared.fault.Fault.{Fault}
 use Rattle.wire.specs.Codec.{Codec}
 use Rattle.wire.specs.Orders.{by_number}
 use Rattle.wire.specs.Lists.{rising, last_count}
@@ -22,24 +23,26 @@ abbrev pub held : (h : Held) → Codec (HeldUnder h)
 held H.Node = node
 held H.Record = layer_record
 
--- the place found, if the list was read to its end
-abbrev pub found_at : Cursor → Option ℕ → Option ℕ
-found_at (C.At q) o = o
-found_at (C.Stop f) o = None
+abbrev pub place_of : Maybe ℕ → Option ℕ
+place_of None = none
+place_of (Some p) = some p
+
+-- where the list ends
+abbrev pub end_of : Result (Maybe ℕ × ℕ) Fault → Result ℕ Fault
+end_of (Ok r) = Ok r.1
+end_of (Err f) = Err f
+
+-- if the list was read to its end, the place found is this one
+abbrev pub Found : Result (Maybe ℕ × ℕ) Fault → Option ℕ → Type 0
+Found (Ok r) o = place_of r.0 ≡ o
+Found (Err f) o = Unit {0}
 
 -- a list by inode is passed, and the place of what stands under one inode is found on the way
-pub record Finds (img : List ℕ) (h : Held) (sought : ℕ) (at : Cursor) (place : Option ℕ) (next : Cursor) : Type 0 where
-  pub ends : Ends img (rising by_number inodeCodec (held h) last_count refl).read at next
-  pub found : place ≡ found_at next (place_in by_number inodeCodec (held h) img sought at)
+pub record Finds (img : List ℕ) (h : Held) (sought at : ℕ) (result : Result (Maybe ℕ × ℕ) Fault) : Type 0 where
+  pub ends : Ends img (rising by_number inodeCodec (held h) last_count refl).read at (end_of result)
+  pub found : Found result (place_in by_number inodeCodec (held h) img sought at)
 
 -- the same of n rows from `first` on
-pub record FindsRows (img : List ℕ) (h : Held) (sought first n : ℕ) (place : Option ℕ) (next : Cursor) : Type 0 where
-  pub ends : Ends img (rows_from by_number inodeCodec (held h) n None) (C.At first) next
-  pub found : place ≡ found_at next (place_under by_number inodeCodec (held h) (length img) sought n (drop first img))
-
--- the place found before, or this one if the inode is the one sought
-abbrev pub or_here : Option ℕ → Cursor → Bool → Option ℕ
-or_here (Some p) here same = Some p
-or_here None (C.At p) true = Some p
-or_here None (C.At p) false = None
-or_here None (C.Stop f) same = None
+pub record FindsRows (img : List ℕ) (h : Held) (sought first n : ℕ) (result : Result (Maybe ℕ × ℕ) Fault) : Type 0 where
+  pub ends : Ends img (rows_from by_number inodeCodec (held h) n none) first (end_of result)
+  pub found : Found result (place_under by_number inodeCodec (held h) (length img) sought n (drop first img))

@@ -1,7 +1,9 @@
 -- What the pass over an image gathers of one inode: the place of its node, and of its record in each batch, front first, and in live.
-use Rattle.std.specs.Prelude.{◌≡◌, refl, List, [], ◌∷◌, ◌++◌, ℕ, zero, suc, ◌+◌, ◌≤◌, length, take, drop, None, Option, Some}
-use Rattle.wire.specs.declared.cursor.Cursor.{Cursor}
-use Rattle.wire.specs.declared.cursor.Cursor.TheVariants as C
+use Rattle.std.specs.Prelude.{◌≡◌, refl, List, [], ◌∷◌, ◌++◌, ℕ, zero, suc, ◌+◌, ◌≤◌, length, take, drop}
+use Rattle.std.proofs.Math.Option.{Option, none, some}
+use Rattle.std.specs.Prelude.{Result, Ok, Err}
+use Rattle.std.specs.Prelude.{Option as Maybe}
+use Rattle.wire.specs.declared.fault.Fault.{Fault}
 use Rattle.wire.specs.Parse.{Parsed, fault, got}
 use Rattle.wire.specs.Codec.{Codec}
 use Rattle.wire.specs.declared.time.Time.{Time}
@@ -14,11 +16,11 @@ use Rattle.image.specs.RecordLayout.{layer_record, records}
 use Rattle.image.specs.StoreLayout.{BatchRest, batch_rest}
 use Rattle.image.specs.Places.{Ends, if_read, place_under, rows_from, last_of, inode_before}
 use Rattle.survey.specs.declared.batch.InodeLayerStack.{InodeLayerStack}
-use Rattle.survey.specs.declared.batch.BatchesRead.{BatchesRead}
+use Rattle.survey.specs.declared.batch.Batches.{Batches}
 
 abbrev pub list_if : Option ℕ → List ℕ
-list_if None = []
-list_if (Some p) = p ∷ []
+list_if none = []
+list_if (some p) = p ∷ []
 
 -- the records of a stack, the lowest first
 abbrev pub deltas_of : InodeLayerStack → List ℕ
@@ -36,12 +38,12 @@ abbrev pub record_place : ℕ → ℕ → List ℕ → Option ℕ
 record_place size sought s = if_read (number_read last_count s) (λ c r. place_under by_number inode layer_record size sought c r)
 
 abbrev pub or_none : {A B : Type 0} → Option A → (A → List B) → List B
-or_none None g = []
-or_none (Some a) g = g a
+or_none none g = []
+or_none (some a) g = g a
 
 abbrev pub rest_of : {A : Type 0} → Parsed A → Option (List ℕ)
-rest_of (fault f) = None
-rest_of (got a r) = Some r
+rest_of (fault f) = none
+rest_of (got a r) = some r
 
 -- the places of an inode's record in each of n batches
 unfoldable pub batch_places : ℕ → ℕ → ℕ → List ℕ → List ℕ
@@ -50,7 +52,7 @@ batch_places size sought (suc n) s =
     or_none (rest_of (batch_head.read s)) (λ r. list_if (record_place size sought r) ++ or_none (rest_of (records.read r)) (λ q. batch_places size sought n q))
 
 -- no record
-pub record Bare (base : Option ℕ) (new : InodeLayerStack) : Type 0 where
+pub record Bare (base : Maybe ℕ) (new : InodeLayerStack) : Type 0 where
   pub few : new.count ≡ 0
   pub wide : length new.deltas ≡ 17
   pub base_kept : new.base ≡ base
@@ -67,28 +69,48 @@ abbrev pub queue_rows : Codec (List (ℕ × BatchRest))
 queue_rows = rows by_number inode batch_rest 16 refl
 
 abbrev pub as_option : {A : Type 0} → Parsed A → Option (A × List ℕ)
-as_option (fault f) = None
-as_option (got a r) = Some (a, r)
+as_option (fault f) = none
+as_option (got a r) = some (a, r)
 
--- n batches were passed, from `first` on: where they end, the last id, and the places over the node found in the base
-pub record Gathers (img : List ℕ) (sought first n : ℕ) (base : Option ℕ) (r : BatchesRead) : Type 0 where
-  pub ends : Ends img (rows_from by_number inode batch_rest n None) (C.At first) r.next
-  pub last : (q : ℕ) → r.next ≡ C.At q → last_of None (rows_from by_number inode batch_rest n None (drop first img)) ≡ got (inode_before r.any r.last) (drop q img)
-  pub places : (q : ℕ) → r.next ≡ C.At q → deltas_of r.stack ≡ batch_places (length img) sought n (drop first img)
-  pub base_kept : (q : ℕ) → r.next ≡ C.At q → r.stack.base ≡ base
-  pub few : r.stack.count ≤ n
-  pub wide : length r.stack.deltas ≡ 17
+-- where the batches end
+abbrev pub queue_end : Result (Batches × ℕ) Fault → Result ℕ Fault
+queue_end (Ok r) = Ok r.1
+queue_end (Err f) = Err f
 
--- the places in the whole list of batches at a cursor
-abbrev pub queue_places : List ℕ → ℕ → Cursor → List ℕ
-queue_places img sought (C.At n) = or_none (as_option (number_read 16 (drop n img))) (λ p. batch_places (length img) sought p.0 p.1)
-queue_places img sought (C.Stop f) = []
+-- what was gathered of n batches, from `first` on, which end at `end`: the last id, and the places over the node found in the base
+pub record Gathered (img : List ℕ) (sought first n : ℕ) (base : Maybe ℕ) (b : Batches) (end : ℕ) : Type 0 where
+  pub last : last_of none (rows_from by_number inode batch_rest n none (drop first img)) ≡ got (inode_before b.last) (drop end img)
+  pub places : deltas_of b.stack ≡ batch_places (length img) sought n (drop first img)
+  pub base_kept : b.stack.base ≡ base
+  pub few : b.stack.count ≤ n
+  pub wide : length b.stack.deltas ≡ 17
+
+abbrev pub gathered_rows : List ℕ → ℕ → ℕ → ℕ → Maybe ℕ → Result (Batches × ℕ) Fault → Type 0
+gathered_rows img sought first n base (Ok r) = Gathered img sought first n base r.0 r.1
+gathered_rows img sought first n base (Err f) = Unit {0}
+
+-- n batches were passed, from `first` on
+pub record Gathers (img : List ℕ) (sought first n : ℕ) (base : Maybe ℕ) (r : Result (Batches × ℕ) Fault) : Type 0 where
+  pub ends : Ends img (rows_from by_number inode batch_rest n none) first (queue_end r)
+  pub gathered : gathered_rows img sought first n base r
+
+-- the places in the whole list of batches at a place
+abbrev pub queue_places : List ℕ → ℕ → ℕ → List ℕ
+queue_places img sought n = or_none (as_option (number_read 16 (drop n img))) (λ p. batch_places (length img) sought p.0 p.1)
+
+-- what was gathered of the whole list
+pub record GatheredQueue (img : List ℕ) (sought at : ℕ) (base : Maybe ℕ) (b : Batches) (end : ℕ) : Type 0 where
+  pub last : last_of none (queue_rows.read (drop at img)) ≡ got (inode_before b.last) (drop end img)
+  pub places : deltas_of b.stack ≡ queue_places img sought at
+  pub base_kept : b.stack.base ≡ base
+  pub few : b.stack.count ≤ 16
+  pub wide : length b.stack.deltas ≡ 17
+
+abbrev pub gathered_queue : List ℕ → ℕ → ℕ → Maybe ℕ → Result (Batches × ℕ) Fault → Type 0
+gathered_queue img sought at base (Ok r) = GatheredQueue img sought at base r.0 r.1
+gathered_queue img sought at base (Err f) = Unit {0}
 
 -- the whole list was passed
-pub record GathersQueue (img : List ℕ) (sought : ℕ) (at : Cursor) (base : Option ℕ) (r : BatchesRead) : Type 0 where
-  pub ends : Ends img queue_rows.read at r.next
-  pub last : (n q : ℕ) → at ≡ C.At n → r.next ≡ C.At q → last_of None (queue_rows.read (drop n img)) ≡ got (inode_before r.any r.last) (drop q img)
-  pub places : (q : ℕ) → r.next ≡ C.At q → deltas_of r.stack ≡ queue_places img sought at
-  pub base_kept : (q : ℕ) → r.next ≡ C.At q → r.stack.base ≡ base
-  pub few : r.stack.count ≤ 16
-  pub wide : length r.stack.deltas ≡ 17
+pub record GathersQueue (img : List ℕ) (sought at : ℕ) (base : Maybe ℕ) (r : Result (Batches × ℕ) Fault) : Type 0 where
+  pub ends : Ends img queue_rows.read at (queue_end r)
+  pub gathered : gathered_queue img sought at base r

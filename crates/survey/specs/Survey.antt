@@ -1,6 +1,8 @@
 -- What the one pass over an image answers: whether it is by the layout, where its sections stand, and where one inode's records are.
-use Rattle.std.specs.Prelude.{◌≡◌, refl, List, ◌++◌, ℕ, ◌≤◌, length, Option}
-use Rattle.wire.specs.declared.cursor.Cursor.TheVariants as C
+use Rattle.std.specs.Prelude.{◌≡◌, refl, List, ◌++◌, ℕ, ◌≤◌, length}
+use Rattle.std.proofs.Math.Option.{Option}
+use Rattle.std.specs.Prelude.{Result, Ok, Err}
+use Rattle.wire.specs.declared.fault.Fault.{Fault}
 use Rattle.wire.specs.Codec.{Codec}
 use Rattle.wire.specs.Combinators.{◌then◌, only}
 use Rattle.wire.specs.Number.{number_to}
@@ -11,6 +13,7 @@ use Rattle.image.specs.NodeLayout.{node, base}
 use Rattle.image.specs.RecordLayout.{layer_record, records}
 use Rattle.image.specs.StoreLayout.{batches, store}
 use Rattle.image.specs.Places.{Ends, place_in}
+use Rattle.passes.specs.Held.{place_of}
 use Rattle.survey.specs.Gathering.{list_if, deltas_of, queue_places}
 use Rattle.survey.specs.declared.store.Survey.{Survey}
 
@@ -20,16 +23,20 @@ tail_after last = only (after by_number last) inode then word then word then num
 
 -- the sections end where the next begin, and the store where the image is read to
 pub record Surveys (img : List ℕ) (sought : ℕ) (r : Survey) : Type 0 where
-  pub ends : Ends img store.read (C.At 0) r.end
-  pub base : Ends img base.read (C.At 0) r.batches
-  pub batches : Ends img batches.read r.batches r.live
-  pub live : Ends img records.read r.live r.tail
-  pub node : (q : ℕ) → r.end ≡ C.At q → r.stack.base ≡ place_in by_number inode node img sought (C.At 0)
-  pub deltas : (q : ℕ) → r.end ≡ C.At q
-      → deltas_of r.stack ≡ queue_places img sought r.batches ++ list_if (place_in by_number inode layer_record img sought r.live)
+  pub ends : Ends img store.read 0 (Ok r.end)
+  pub base : Ends img base.read 0 (Ok r.batches)
+  pub batches : Ends img batches.read r.batches (Ok r.live)
+  pub live : Ends img records.read r.live (Ok r.tail)
+  pub node : place_of r.stack.base ≡ place_in by_number inode node img sought 0
+  pub deltas : deltas_of r.stack ≡ queue_places img sought r.batches ++ list_if (place_in by_number inode layer_record img sought r.live)
 
 -- the survey of the one pass: its stack has room for 16 batches and live
 pub record Surveyed (img : List ℕ) (sought : ℕ) (r : Survey) : Type 0 where
   pub surveys : Surveys img sought r
   pub few : r.stack.count ≤ 17
   pub wide : length r.stack.deltas ≡ 17
+
+-- the survey, or the fault at which the store stops
+abbrev pub SurveyOf : List ℕ → ℕ → Result Survey Fault → Type 0
+SurveyOf img sought (Ok r) = Surveyed img sought r
+SurveyOf img sought (Err f) = Ends img store.read 0 (Err f)

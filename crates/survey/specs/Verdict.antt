@@ -1,41 +1,40 @@
 -- Document 01: "Always first: 1, image over 65,536 bytes; 2, image not by the layout."
-use Rattle.std.specs.Prelude.{◌≡◌, cond, List, ℕ, ltb, length, None, Option, Some}
-use Rattle.wire.specs.declared.cursor.Cursor.{Cursor}
-use Rattle.wire.specs.declared.cursor.Cursor.TheVariants as C
+use Rattle.std.specs.Prelude.{◌≡◌, cond, List, ℕ, ltb, length, Result, Some, None, IfOk}
+use Rattle.std.specs.Prelude.{Option as Maybe}
+use Rattle.std.specs.Result.{result_err}
+use Rattle.std.proofs.Math.Option.{Option, none, some}
 use Rattle.wire.specs.Parse.{Parsed, fault, got}
 use Rattle.image.specs.Meaning.{Store}
 use Rattle.image.specs.RoundTrip.{read_image}
 use Rattle.survey.specs.Survey.{Surveyed}
-use Rattle.survey.specs.declared.store.Verdict.{Verdict}
-use Rattle.survey.specs.declared.store.Verdict.TheVariants as D
-use Rattle.survey.specs.declared.store.ImageRead.{ImageRead}
+use Rattle.survey.specs.declared.store.Refusal.{Refusal}
+use Rattle.survey.specs.declared.store.Refusal.TheVariants as D
+use Rattle.survey.specs.declared.store.Survey.{Survey}
 
--- the number of each verdict
-abbrev pub refusal_of : Verdict → Option ℕ
-refusal_of D.Fine = None
-refusal_of D.TooLong = Some 1
-refusal_of D.Broken = Some 2
+-- the number of each refusal
+abbrev pub number_of : Refusal → ℕ
+number_of D.TooLong = 1
+number_of D.Broken = 2
+
+-- the number of a verdict, which is a refusal or that there is none
+abbrev pub refusal_of : Maybe Refusal → Option ℕ
+refusal_of None = none
+refusal_of (Some r) = some (number_of r)
 
 -- the same, 0 for none
-abbrev pub refusal_number : Verdict → ℕ
-refusal_number D.Fine = 0
-refusal_number D.TooLong = 1
-refusal_number D.Broken = 2
+abbrev pub refusal_number : Maybe Refusal → ℕ
+refusal_number None = 0
+refusal_number (Some r) = number_of r
 
 -- both faults are refusal 2 today (document 02, T-09, parts them)
-abbrev pub judge : Parsed Store → Verdict
-judge (fault f) = D.Broken
-judge (got s r) = D.Fine
+abbrev pub judge : Parsed Store → Maybe Refusal
+judge (fault f) = Some D.Broken
+judge (got s r) = None
 
-unfoldable pub verdict_of : List ℕ → Verdict
-verdict_of img = cond (ltb 65536 (length img)) D.TooLong (judge (read_image img))
-
--- the same by the end of the store in an image of so many bytes
-abbrev pub verdict_at : Cursor → ℕ → Verdict
-verdict_at (C.At place) length = cond (ltb place length) D.Broken D.Fine
-verdict_at (C.Stop f) length = D.Broken
+unfoldable pub verdict_of : List ℕ → Maybe Refusal
+verdict_of img = cond (ltb 65536 (length img)) (Some D.TooLong) (judge (read_image img))
 
 -- the verdict, and the survey where the image is fine
-pub record Judges (img : List ℕ) (sought : ℕ) (r : ImageRead) : Type 0 where
-  pub verdict : r.verdict ≡ verdict_of img
-  pub survey : r.verdict ≡ D.Fine → Surveyed img sought r.survey
+pub record Judges (img : List ℕ) (sought : ℕ) (r : Result Survey Refusal) : Type 0 where
+  pub verdict : result_err r ≡ verdict_of img
+  pub survey : IfOk r (λ s. Surveyed img sought s)

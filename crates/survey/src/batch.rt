@@ -3,12 +3,13 @@ ghost use Rattle.std.specs.Prelude.{◌≤◌, ◌≡◌, refl, length};
 ghost use Rattle.wire.specs.Number.{between};
 ghost use Rattle.wire.specs.Reading.{Reads};
 ghost use Rattle.image.specs.Places.{Ends};
+ghost use Rattle.passes.specs.Held.{place_of};
 ghost use Rattle.survey.specs.Gathering.{head_rest, Bare, Pushed, Gathers, GathersQueue};
 
-use image::field::{pass_number, pass_time};
+use image::field::{LAST_WORD, pass_number, pass_time};
 use passes::inode::{Held, find_inode, inode_after};
-use wire::cursor::{Cursor, Fault};
-use wire::number::{NumberRead, no_number, read_number};
+use wire::fault::Fault;
+use wire::number::read_number;
 
 // An inode's node in the base, and its records in the layers that have one: `count` places, the front batch's first.
 #[derive(Clone, Copy)]
@@ -18,16 +19,15 @@ pub struct InodeLayerStack {
     pub count: usize,
 }
 
+// What the queue has of an inode, over its node in the base, and the id of the last batch.
 #[derive(Clone, Copy)]
-pub struct BatchesRead {
+pub struct Batches {
     pub stack: InodeLayerStack,
-    pub any: bool,
-    pub last: u64,
-    pub next: Cursor,
+    pub last: Option<u64>,
 }
 
 // The stack of an inode that no layer has a record of.
-pub fn bare_stack(base: Option<usize>) -> InodeLayerStack
+fn bare_stack(base: Option<usize>) -> InodeLayerStack
     ensures { Bare base result }
 {
     InodeLayerStack {
@@ -40,7 +40,7 @@ pub fn bare_stack(base: Option<usize>) -> InodeLayerStack
 // The stack with one place more, if it is one.
 pub fn pushed(stack: InodeLayerStack, place: Option<usize>) -> InodeLayerStack
     requires { (stack.count ≤ 16) × (length stack.deltas ≡ 17) }
-    ensures { Pushed stack place result }
+    ensures { Pushed stack (place_of place) result }
 {
     match place {
         Some(p) => {
@@ -55,89 +55,63 @@ pub fn pushed(stack: InodeLayerStack, place: Option<usize>) -> InodeLayerStack
 }
 
 // A reason, from 1 to 5.
-pub fn read_reason(img: &[u8], at: Cursor) -> NumberRead
-    ensures { Reads img.now (between 1 5 refl).read at result.value result.next }
+pub fn read_reason(img: &[u8], at: usize) -> Result<(u64, usize), Fault>
+    ensures { Reads img.now (between 1 5 refl).read at result }
 {
-    let reason = read_number(img, at, 5);
-    let next = reason.next;
-    match next {
-        Cursor::At(_) => {
-            if reason.value == 0 {
-                return no_number(Fault::Malformed);
-            }
-            reason
-        }
-        Cursor::Stop(_) => reason,
+    let (reason, next) = read_number(img, at, 5)?;
+    if reason == 0 {
+        return Err(Fault::Malformed);
     }
+    Ok((reason, next))
 }
 
 // Passes the rest of a batch's head: bytes, operations, reason and commit time.
-fn pass_head_rest(img: &[u8], at: Cursor) -> Cursor
+#[tactic(auto, using(image::proofs::Passing::passes))]
+fn pass_head_rest(img: &[u8], at: usize) -> Result<usize, Fault>
     ensures { Ends img.now head_rest.read at result }
 {
-    let operations = pass_number(img, at, 0xFFFF_FFFF);
-    let reasoned = pass_number(img, operations, 0xFFFF_FFFF);
-    let reason = read_reason(img, reasoned);
-    let committed = reason.next;
+    let operations = pass_number(img, at, LAST_WORD)?;
+    let reasoned = pass_number(img, operations, LAST_WORD)?;
+    let (_, committed) = read_reason(img, reasoned)?;
     pass_time(img, committed)
 }
 
 // Passes `count` batches, the first of which is at `first`, and gathers the places of the records that they hold of one inode.
-fn gather_batches(img: &[u8], first: usize, count: u64, sought: u64, base: Option<usize>) -> BatchesRead
+#[tactic(auto, using(crate::proofs::Batches::gathers))]
+fn gather_batches(
+    img: &[u8],
+    first: usize,
+    count: u64,
+    sought: u64,
+    base: Option<usize>,
+) -> Result<(Batches, usize), Fault>
     requires { (first ≤ length img.now) × (count ≤ 16) }
     ensures { Gathers img.now sought first count base result }
 {
-    let mut left = count;
     let mut here = first;
-    let mut any = false;
-    let mut last: u64 = 0;
-    let mut gathered = InodeLayerStack {
-        base,
-        deltas: [0; 17],
-        count: 0,
-    };
-    while 0 < left {
-        let id = inode_after(img, Cursor::At(here), any, last);
-        let named = id.next;
-        let records = pass_head_rest(img, named);
-        let found = find_inode(img, records, Held::Record, sought);
-        let next = found.next;
-        let Cursor::At(end) = next else {
-            return BatchesRead {
-                stack: gathered,
-                any,
-                last,
-                next,
-            };
-        };
-        let place = found.place;
-        gathered = pushed(gathered, place);
-        last = id.value;
-        any = true;
+    let mut last: Option<u64> = None;
+    let mut stack = bare_stack(base);
+    for _batch in 0..count {
+        let (id, named) = inode_after(img, here, last)?;
+        let records = pass_head_rest(img, named)?;
+        let (place, end) = find_inode(img, records, Held::Record, sought)?;
+        stack = pushed(stack, place);
+        last = Some(id);
         here = end;
-        left = left - 1;
     }
-    BatchesRead {
-        stack: gathered,
-        any,
-        last,
-        next: Cursor::At(here),
-    }
+    Ok((Batches { stack, last }, here))
 }
 
-// Passes the list of batches at `at`, its count first, over the node found in the base.
-pub fn gather_queue(img: &[u8], at: Cursor, sought: u64, base: Option<usize>) -> BatchesRead
+// Passes the list of batches at `at`, its count first, over the node found in the base, and answers what it has and the place after it.
+#[tactic(auto, using(crate::proofs::Batches::gathers))]
+pub fn gather_queue(
+    img: &[u8],
+    at: usize,
+    sought: u64,
+    base: Option<usize>,
+) -> Result<(Batches, usize), Fault>
     ensures { GathersQueue img.now sought at base result }
 {
-    let count = read_number(img, at, 16);
-    let next = count.next;
-    match next {
-        Cursor::At(first) => gather_batches(img, first, count.value, sought, base),
-        Cursor::Stop(fault) => BatchesRead {
-            stack: bare_stack(base),
-            any: false,
-            last: 0,
-            next: Cursor::Stop(fault),
-        },
-    }
+    let (count, first) = read_number(img, at, 16)?;
+    gather_batches(img, first, count, sought, base)
 }

@@ -6,7 +6,7 @@ use Rattle.std.proofs.Common.{sym, ◌∙◌, subst}
 use mathlib.Core.List.{List, [], ◌∷◌, ◌++◌, append-nil}
 use Rattle.wire.specs.Parse.{Parsed, fault, got, never-got}
 use Rattle.wire.specs.Codec.{Codec, OneForm, prefix-ended, whole, decode}
-use Rattle.wire.specs.declared.cursor.Fault.TheVariants.{Ended}
+use Rattle.wire.specs.declared.fault.Fault.TheVariants.{Ended}
 
 module _ {A : Type 0} (c : Codec A) where
   -- what is written is read back

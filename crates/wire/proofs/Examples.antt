@@ -9,7 +9,7 @@ use Rattle.wire.specs.Number.{edge, groups, number_bytes, groups-read, number_re
 use Rattle.wire.specs.Text.{text-read}
 use Rattle.wire.specs.Time.{time}
 use Rattle.wire.specs.Lists.{Every}
-use Rattle.wire.specs.declared.cursor.Fault.TheVariants.{Ended, Malformed}
+use Rattle.wire.specs.declared.fault.Fault.TheVariants.{Ended, Malformed}
 use Rattle.wire.specs.declared.time.Time.{Time}
 
 -- "300 is hexadecimal AC 02"

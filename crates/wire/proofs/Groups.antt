@@ -3,6 +3,7 @@
 use mathlib.Core.Path.{◌≡◌, refl, sym, ap, ◌∙◌}
 use mathlib.Core.Logic.{⊎_elim}
 use mathlib.Core.List.{List}
+use Rattle.std.specs.Prelude.{Result, Ok, Err}
 use Prim.Native.Nat.{ℕ, zero, suc, ◌+◌, ◌-◌, ◌*◌, ◌^◌, ◌≤◌, ◌<◌}
 use native.Mathlib.Nat.{add-mul, mul_assoc, mul_comm, mul-le-mul_right, pow-suc, one-le-pow}
 use native.Mathlib.Numerals.{add-one}
@@ -14,12 +15,9 @@ use lib.Seq.{drop-cons}
 use borrow.Author.Tests.{lt-ltb, le-ltb, le-leb, lt-leb, ne_eqb}
 use Rattle.wire.specs.Parse.{Parsed, fault, got}
 use Rattle.wire.specs.Number.{tenth, groups-read, scaled, up_to, number_read, number-rest, lt-or-ge}
-use Rattle.wire.specs.Reading.{Answers, Tenth, run, no_number, judged_number, last_group}
-use Rattle.wire.specs.declared.cursor.Fault.{Fault}
-use Rattle.wire.specs.declared.cursor.Fault.TheVariants.{Ended, Malformed}
-use Rattle.wire.specs.declared.cursor.Cursor.{Cursor}
-use Rattle.wire.specs.declared.cursor.Cursor.TheVariants.{At}
-use Rattle.wire.specs.declared.number.NumberRead.{NumberRead}
+use Rattle.wire.specs.Reading.{Reads, Tenth, judged_number, last_group}
+use Rattle.wire.specs.declared.fault.Fault.{Fault}
+use Rattle.wire.specs.declared.fault.Fault.TheVariants.{Ended, Malformed}
 
 -- ---- the groups at a position, by the byte there
 
@@ -45,40 +43,39 @@ module _ (s : List ℕ) (at : ℕ) where
 
 -- ---- answers
 
-module _ {s : List ℕ} {p : List ℕ → Parsed ℕ} {at : Cursor} {r : NumberRead} where
-  pub answer-none : {f : Fault} → run s p at ≡ fault f → r ≡ no_number f → Answers s p at 0 r.value r.next
-  answer-none e q = rw q (record { reads = record { same = e; within = tt }; blank = refl })
+module _ {s : List ℕ} {p : List ℕ → Parsed ℕ} {at : ℕ} where
+  stopped : {f : Fault} → p (drop at s) ≡ fault f → Reads s p at (Err f)
+  stopped e = record { same = e; within = tt }
 
-  answer-judged : (v most next : ℕ) → run s p at ≡ up_to most (got v (drop next s)) → next ≤ length s → r ≡ judged_number v most next
-      → Answers s p at 0 r.value r.next
-  answer-judged v most next e h q =
+  answer-none : {f : Fault} {r : Result (ℕ × ℕ) Fault} → p (drop at s) ≡ fault f → r ≡ Err f → Reads s p at r
+  answer-none e q = rw q (stopped e)
+
+  answer-judged : {r : Result (ℕ × ℕ) Fault} (v most next : ℕ) → p (drop at s) ≡ up_to most (got v (drop next s)) → next ≤ length s → r ≡ judged_number v most next → Reads s p at r
+  answer-judged {r} v most next e h q =
       ⊎_elim
       (λ l. answer-none {f = Malformed} (e ∙ rw (lt-leb v most l)) (q ∙ rw (lt-ltb most v l)))
       (λ l.
-      let d : r ≡ record { value = v; next = At next } = q ∙ rw (le-ltb most v l) in
-      rw d (record { reads = record { same = e ∙ rw (le-leb v most l); within = h }; blank = tt }))
+      let d : r ≡ Ok (v, next) = q ∙ rw (le-ltb most v l) in
+      rw d (record { same = e ∙ rw (le-leb v most l); within = h }))
       (lt-or-ge most v)
 
 -- ---- the first byte
 
-module _ {s : List ℕ} {at : ℕ} (most : ℕ) {r : NumberRead} where
-  pub first-end : length s ≤ at → r ≡ no_number Ended → Answers s (number_read most) (At at) 0 r.value r.next
+module _ {s : List ℕ} {at : ℕ} (most : ℕ) where
+  pub first-end : length s ≤ at → Reads s (number_read most) at (Err Ended)
   unfolding number_read
-  first-end h q = answer-none (rw (groups-end s at 9 h)) q
+  first-end h = stopped (rw (groups-end s at 9 h))
 
   module _ (h : at < length s) {b : ℕ} (e : b ≡ get_or s at 0) where
-    pub first-only : b < 128 → r ≡ judged_number b most (at + 1) → Answers s (number_read most) (At at) 0 r.value r.next
+    pub first-only : {r : Result (ℕ × ℕ) Fault} → b < 128 → r ≡ judged_number b most (at + 1) → Reads s (number_read most) at r
     unfolding number_read
     first-only l q =
         answer-judged b most (at + 1) (rw (groups-last s at h 9 (rw e at l), e)) (omega arith) q
 
-    pub first-long : 128 ≤ b → b < 256 → Answers s (number-rest 128 (b - 128) most 8) (At (at + 1)) 0 r.value r.next
-        → Answers s (number_read most) (At at) 0 r.value r.next
+    pub first-long : {r : Result (ℕ × ℕ) Fault} → 128 ≤ b → b < 256 → Reads s (number-rest 128 (b - 128) most 8) (at + 1) r
+        → Reads s (number_read most) at r
     unfolding number_read number-rest
-    first-long l k a = record {
-      reads = record { same = rw (groups-more s at h 8 (rw e at l) (rw e at k), ← e) a.reads.same; within = a.reads.within };
-      blank = a.blank;
-    }
+    first-long l k a = record { same = rw (groups-more s at h 8 (rw e at l) (rw e at k), ← e) a.same; within = a.within }
 
 -- ---- the bytes after it
 
@@ -152,15 +149,15 @@ module _ {s : List ℕ} {at low most i weight sum end : ℕ} (f : Far s at low m
     far-weight = record { fits = omega (arith, room weight f.left f.weighs far-light) }
 
     module _ {b : ℕ} (d : b ≡ get_or s i 0) where
-      pub far-last : {r : NumberRead} → b < 128 → r ≡ last_group b (b * weight + sum) most (i + 1)
-          → Answers s (number-rest 128 low most 8) (At at) 0 r.value r.next
+      pub far-last : {r : Result (ℕ × ℕ) Fault} → b < 128 → r ≡ last_group b (b * weight + sum) most (i + 1)
+          → Reads s (number-rest 128 low most 8) at r
       unfolding number-rest
       far-last {r} l q = go b refl
         where
           here : groups-read (drop i s) f.left ≡ got b (drop (i + 1) s)
           here = groups-last s i far-inside f.left (rw d at l) ∙ ap (λ (x : ℕ). got x (drop (i + 1) s)) (sym d)
 
-          go : (c : ℕ) → b ≡ c → Answers s (number-rest 128 low most 8) (At at) 0 r.value r.next
+          go : (c : ℕ) → b ≡ c → Reads s (number-rest 128 low most 8) at r
           go zero z = answer-none {f = Malformed} (f.is ∙ rw (here, z)) (q ∙ rw z)
           go (suc c) z =
               answer-judged (b * weight + sum) most (i + 1)
@@ -202,31 +199,27 @@ module _ {s : List ℕ} {at low most i weight sum end : ℕ} (f : Far s at low m
           let ended : length s ≤ i = omega (arith, e.last (omega arith)) in
           x ∙ rw (groups-end s i (suc n) ended) (sym (rw (groups-end s i 0 ended)))
 
-  pub far-rest : {v : ℕ} {n : Cursor} → end ≤ i → Answers s (number-rest tenth sum most 0) (At i) 0 v n
-      → Answers s (number-rest 128 low most 8) (At at) 0 v n
-  far-rest h a = record {
-    reads = record { same = far-after h ∙ a.reads.same; within = a.reads.within };
-    blank = a.blank;
-  }
+  pub far-rest : {r : Result (ℕ × ℕ) Fault} → end ≤ i → Reads s (number-rest tenth sum most 0) i r → Reads s (number-rest 128 low most 8) at r
+  far-rest h a = record { same = far-after h ∙ a.same; within = a.within }
 
 -- ---- the tenth byte
 
-module _ {s : List ℕ} {at : ℕ} (sum most : ℕ) {r : NumberRead} where
-  pub tenth-end : length s ≤ at → r ≡ no_number Ended → Answers s (number-rest tenth sum most 0) (At at) 0 r.value r.next
+module _ {s : List ℕ} {at : ℕ} (sum most : ℕ) where
+  pub tenth-end : length s ≤ at → Reads s (number-rest tenth sum most 0) at (Err Ended)
   unfolding number-rest
-  tenth-end h q = answer-none (rw (groups-end s at 0 h)) q
+  tenth-end h = stopped (rw (groups-end s at 0 h))
 
   module _ (h : at < length s) where
-    pub tenth-one : get_or s at 0 ≡ 1 → r ≡ judged_number (tenth + sum) most (at + 1) → Answers s (number-rest tenth sum most 0) (At at) 0 r.value r.next
+    pub tenth-one : {r : Result (ℕ × ℕ) Fault} → get_or s at 0 ≡ 1 → r ≡ judged_number (tenth + sum) most (at + 1) → Reads s (number-rest tenth sum most 0) at r
     unfolding number-rest
     tenth-one e q =
         let v : 1 * tenth + sum ≡ tenth + sum = omega arith in
         answer-judged (tenth + sum) most (at + 1) (rw (groups-last s at h 0 (omega arith), e, v)) (omega arith) q
 
     -- any other byte is 0, or more than 64 bits hold, or not the last
-    pub tenth-other : (get_or s at 0 ≡ 1 → ⊥) → Fits w64 most → r ≡ no_number Malformed → Answers s (number-rest tenth sum most 0) (At at) 0 r.value r.next
+    pub tenth-other : (get_or s at 0 ≡ 1 → ⊥) → Fits w64 most → Reads s (number-rest tenth sum most 0) at (Err Malformed)
     unfolding number-rest
-    tenth-other n f q = answer-none (⊎_elim below (λ l. rw (groups-tenth s at h l)) (lt-or-ge (get_or s at 0) 128)) q
+    tenth-other n f = stopped (⊎_elim below (λ l. rw (groups-tenth s at h l)) (lt-or-ge (get_or s at 0) 128))
       where
         below : get_or s at 0 < 128 → up_to most (scaled tenth sum (groups-read (drop at s) 0)) ≡ fault Malformed
         below l =

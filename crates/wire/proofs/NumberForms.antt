@@ -9,7 +9,7 @@ use Rattle.wire.specs.Number.{edge, number_bytes, scaled, groups-read, number_re
 use Rattle.wire.specs.Text.{text_bytes, text-read, FitsText, framed, text}
 use Rattle.wire.specs.Time.{zigzag, unzigzag, unzigzag-zigzag, zigzag-unzigzag, signed-zigzag, zigzag-signed, seconds, nanos, time_of, time}
 use Rattle.wire.proofs.OneForm.{bytes-one, then-one, via-one, restated-one, only-one, tagged-one}
-use Rattle.wire.specs.declared.cursor.Fault.TheVariants.{Malformed}
+use Rattle.wire.specs.declared.fault.Fault.TheVariants.{Malformed}
 
 -- what holds of what was found holds of what is said to be found
 pub same-got : {A : Type 0} (P : A → List ℕ → Type 0) {a b : A} {u r : List ℕ} → got a u ≡ got b r → P a u → P b r

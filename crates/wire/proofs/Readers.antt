@@ -1,5 +1,6 @@
 -- How reads are put together: a read that stops stays stopped, for the same fault.
 -- Assumes nothing.
+use Rattle.std.specs.Prelude.{Result, Ok, Err, IsErr, IsErrAnd, ℤ}
 use Prim.Native.Nat.{ℕ, zero, suc, ◌+◌, ◌-◌, ◌≤◌, ◌<◌}
 use mathlib.Core.Path.{◌≡◌, refl, sym, ap, ◌∙◌}
 use mathlib.Core.List.{List, [], ◌∷◌}
@@ -9,67 +10,68 @@ use mir.Syntax.{w8}
 use mir.Val.{Fits}
 use lib.ListN.{get_or, length, take, drop, length-drop, drop_of_length-le}
 use lib.Seq.{drop-drop, take_all, take-nil}
-use Rattle.wire.specs.Parse.{Parsed, fault, got, bind, never-got}
+use Rattle.wire.specs.Parse.{Parsed, got, bind}
 use Rattle.wire.specs.Codec.{Bytes}
 use Rattle.wire.specs.Combinators.{all-bytes}
 use Rattle.wire.specs.Number.{edge, number_read}
-use Rattle.wire.specs.Text.{length_read, text-read}
-use Rattle.wire.specs.Time.{unzigzag, time, epoch}
-use Rattle.wire.specs.Reading.{Reads, Answers, AnswersPart, run, give, cursor_in, part, no_text}
+use Rattle.wire.specs.Text.{text-read}
+use Rattle.wire.specs.Time.{unzigzag, time}
+use Rattle.wire.specs.declared.time.Time.{Time}
+use Rattle.wire.specs.Reading.{Reads, ReadsPart, part}
+use Rattle.wire.specs.declared.text.Part.{Part}
 use Rattle.wire.proofs.NumberForms.{number-forth}
-use Rattle.wire.specs.declared.cursor.Fault.{Fault}
-use Rattle.wire.specs.declared.cursor.Fault.TheVariants.{Ended, Malformed}
-use Rattle.wire.specs.declared.cursor.Cursor.{Cursor}
-use Rattle.wire.specs.declared.cursor.Cursor.TheVariants.{At, Stop}
-use Rattle.wire.specs.declared.text.TextRead.{TextRead}
+use Rattle.wire.specs.declared.fault.Fault.{Fault}
+use Rattle.wire.specs.declared.fault.Fault.TheVariants.{Ended, Malformed}
 
-module _ {A B : Type 0} (img : List ℕ) (p : List ℕ → Parsed A) (k : A → List ℕ → Parsed B) where
-  chained : (at next : Cursor) (a : A) {q : Parsed B} → run img p at ≡ give img a next → run img (k a) next ≡ q
-      → run img (λ s. bind (p s) k) at ≡ q
-  chained (At n) (At m) a e f = ap (λ x. bind x k) e ∙ f
-  chained (At n) (Stop y) a e f = ap (λ x. bind x k) e ∙ f
-  chained (Stop x) (At m) a e f = never-got e
-  chained (Stop x) (Stop y) a e f = ap (λ x. bind x k) e ∙ f
+-- what `?` hands on is the fault that it met
+pub handed : {A E : Type 0} {r : Result A E} {f : E} → IsErr r × IsErrAnd r (λ y. y ≡ f) → r ≡ Err f
+handed {r = r} h = go r h.1
+  where
+    go : {A E : Type 0} {f : E} (r : Result A E) → IsErrAnd r (λ y. y ≡ f) → r ≡ Err f
+    go (Ok x) k = absurd k
+    go (Err y) k = ap Err k
 
-  pub read-then : {at next after : Cursor} {a : A} {b : B} → Reads img p at a next → Reads img (k a) next b after
-      → Reads img (λ s. bind (p s) k) at b after
-  read-then {at} {next} {a = a} h g = record { same = chained at next a h.same g.same; within = g.within }
+-- one after the other, where the second may depend on what the first read
+module _ {A B : Type 0} {img : List ℕ} {p : List ℕ → Parsed A} (k : A → List ℕ → Parsed B) {at : ℕ} where
+  pub read-then : {a : A} {m : ℕ} {r : Result (B × ℕ) Fault} → Reads img p at (Ok (a, m)) → Reads img (k a) m r → Reads img (λ s. bind (p s) k) at r
+  read-then h g = record { same = rw (h.same) g.same; within = g.within }
 
-given : {A : Type 0} (img : List ℕ) (a : A) (next : Cursor) → run img (λ s. got a s) next ≡ give img a next
-given img a (At n) = refl
-given img a (Stop f) = refl
+  -- a stop is handed on
+  pub read-stop : {f : Fault} → Reads img p at (Err f) → Reads img (λ s. bind (p s) k) at (Err f)
+  read-stop h = record { same = rw (h.same); within = tt }
 
-pub read-end : {A : Type 0} (img : List ℕ) {a : A} {next : Cursor} → cursor_in img next → Reads img (λ s. got a s) next a next
-read-end img {a} {next} w = record { same = given img a next; within = w }
-
--- a stop is handed on
-pub read-stop : {A : Type 0} (img : List ℕ) (p : List ℕ → Parsed A) {a : A} {f : Fault} → Reads img p (Stop f) a (Stop f)
-read-stop img p = record { same = refl; within = tt }
-
-pub read-in : {A : Type 0} {img : List ℕ} {p : List ℕ → Parsed A} {at : Cursor} {q : ℕ} {a : A} {next : Cursor} → Reads img p at a next → next ≡ At q → q ≤ length img
-read-in h e = rw e at h.within
+pub read-end : {A : Type 0} {img : List ℕ} {a : A} {m : ℕ} → m ≤ length img → Reads img (λ s. got a s) m (Ok (a, m))
+read-end w = record { same = refl; within = w }
 
 -- what was read is at most what it may be
-pub number-most : {img : List ℕ} {most n : ℕ} (at next : Cursor) → Answers img (number_read most) at 0 n next → n ≤ most
-number-most {img} {most} {n} (At i) (At q) h = (number-forth most (drop i img) n (drop q img) h.reads.same).1
-number-most (Stop f) (At q) h = never-got h.reads.same
-number-most at (Stop f) h = omega (arith, h.blank)
+pub number-most : {img : List ℕ} {most at n m : ℕ} {o : Result (ℕ × ℕ) Fault} → Reads img (number_read most) at o → o ≡ Ok (n, m) → n ≤ most
+number-most {img} {most} {at} {n} {m} h d = (number-forth most (drop at img) n (drop m img) (rw d at h).same).1
+
+pub read-in : {A : Type 0} {img : List ℕ} {p : List ℕ → Parsed A} {at : ℕ} {a : A} {m : ℕ} {o : Result (A × ℕ) Fault} → Reads img p at o → o ≡ Ok (a, m) → m ≤ length img
+read-in h d = (rw d at h).within
 
 -- ---- a time
 
-module _ {img : List ℕ} {a b : ℕ} {at middle next : Cursor} (h : Answers img (number_read edge) at 0 a middle) (k : Answers img (number_read 999999999) middle 0 b next) where
-  both : Reads img time.read at (record { seconds = unzigzag a; nanos = b }) next
+module _ {img : List ℕ} {at : ℕ} {o : Result (ℕ × ℕ) Fault} (h : Reads img (number_read edge) at o) where
+  pub time-stop : {f : Fault} {r : Result (Time × ℕ) Fault} → o ≡ Err f → r ≡ Err f → Reads img time.read at r
   unfolding time
-  both =
-      read-then img _ _
-      (read-then img _ _ (read-then img _ _ h.reads (read-end img h.reads.within)) (read-then img _ _ k.reads (read-end img k.reads.within)))
-      (read-end img k.reads.within)
+  time-stop d e = rw e (read-stop _ (read-stop _ (read-stop _ (rw d at h))))
 
-  pub time-whole : {q : ℕ} → next ≡ At q → Answers img time.read at epoch (record { seconds = unzigzag a; nanos = b }) (At q)
-  time-whole e = record { reads = rw e at both; blank = tt }
+  module _ {a middle : ℕ} (d : o ≡ Ok (a, middle)) {u : Result (ℕ × ℕ) Fault} (k : Reads img (number_read 999999999) middle u) where
+    pub time-half : {f : Fault} {r : Result (Time × ℕ) Fault} → u ≡ Err f → r ≡ Err f → Reads img time.read at r
+    unfolding time
+    time-half c e =
+        let g = rw d at h in
+        rw e (read-stop _ (read-then _ (read-then _ g (read-end g.within)) (read-stop _ (rw c at k))))
 
-  pub time-stop : {f : Fault} → next ≡ Stop f → Answers img time.read at epoch epoch (Stop f)
-  time-stop {f} e = record { reads = record { same = (rw e at both).same; within = tt }; blank = refl }
+    pub time-whole : {b next : ℕ} {s : ℤ} → u ≡ Ok (b, next) → s ≡ unzigzag a → Reads img time.read at (Ok (record { seconds = s; nanos = b }, next))
+    unfolding time
+    time-whole c e =
+        let g = rw d at h in
+        let l = rw c at k in
+        rw e (read-then _ (read-then _ (read-then _ g (read-end g.within)) (read-then _ l (read-end l.within))) (read-end l.within))
+
+pub ruleset times = (time-stop, time-half, time-whole, number-most, handed)
 
 -- ---- a text, from its length
 
@@ -88,46 +90,33 @@ bytes_take zero s h = tt
 bytes_take (suc n) [] h = tt
 bytes_take (suc n) (b ∷ s) h = (h.0, bytes_take n s h.1)
 
-module _ {img : List ℕ} {n : ℕ} {at next : Cursor} (least most : ℕ) (h : Answers img (number_read most) at 0 n next) where
-  sized : {q : ℕ} → next ≡ At q → least ≤ n → Reads img (length_read least most) at n (At q)
-  sized {q} e l =
-      read-then img (number_read most) _ {next = At q} {a = n} (rw e at h.reads) (record { same = rw (le-leb least n l); within = read-in h.reads e })
-
-  pub text-whole : {q : ℕ} → Bytes img → next ≡ At q → least ≤ n → n ≤ length img - q → AnswersPart img (text-read least most) at q n (At (q + n))
+module _ {img : List ℕ} {at : ℕ} (least most : ℕ) {o : Result (ℕ × ℕ) Fault} (h : Reads img (number_read most) at o) where
+  pub text-stop : {f : Fault} {r : Result (Part × ℕ) Fault} → o ≡ Err f → r ≡ Err f → ReadsPart img (text-read least most) at r
   unfolding text-read
-  text-whole {q} b e l k =
-      let w : q ≤ length img = read-in h.reads e in
-      record {
-        reads =
-            read-then img (length_read least most) _ {next = At q} {a = n} (sized e l)
-            (record { same = rw (le-leb n (length (drop q img)) (rw length-drop k), all-bytes (take n (drop q img)) (bytes_take n (drop q img) (bytes_drop q img b)), drop-drop n q img); within = omega arith });
-        inside = omega arith;
-        ends = refl;
-      }
+  text-stop d e = let g = rw d at h in rw e (record { same = rw (g.same); within = tt })
 
-  module _ {r : TextRead} where
-    none_of : {f : Fault} → run img (text-read least most) at ≡ fault f → r ≡ no_text f → AnswersPart img (text-read least most) at r.start r.length r.next
-    none_of e q = rw q (record { reads = record { same = e; within = tt }; inside = omega arith; ends = (refl, refl) })
-
-    pub text-ended : {q : ℕ} → next ≡ At q → least ≤ n → length img - q < n → r ≡ no_text Ended → AnswersPart img (text-read least most) at r.start r.length r.next
+  module _ {n q : ℕ} (d : o ≡ Ok (n, q)) where
+    pub text-small : n < least → ReadsPart img (text-read least most) at (Err Malformed)
     unfolding text-read
-    text-ended {q} e l k d =
-        none_of {f = Ended}
-        (chained img (length_read least most) _ at (At q) n (sized e l).same (rw (lt-leb n (length (drop q img)) (rw length-drop k)))) d
+    text-small l = let g = rw d at h in record { same = rw (g.same, lt-leb least n l); within = tt }
 
-    pub text-small : {q : ℕ} → next ≡ At q → n < least → r ≡ no_text Malformed → AnswersPart img (text-read least most) at r.start r.length r.next
+    pub text-ended : least ≤ n → length img - q < n → ReadsPart img (text-read least most) at (Err Ended)
     unfolding text-read
-    text-small {q} e l d =
-        none_of {f = Malformed}
-        (chained img (length_read least most) _ at (Stop Malformed) n
-        (chained img (number_read most) _ at (At q) n (rw e at h.reads.same) (rw (lt-leb least n l))) refl) d
+    text-ended l k = let g = rw d at h in record { same = rw (g.same, le-leb least n l, lt-leb n (length (drop q img)) (rw length-drop k)); within = tt }
 
-    pub text-stop : {f : Fault} → next ≡ Stop f → r ≡ no_text f → AnswersPart img (text-read least most) at r.start r.length r.next
+    pub text-whole : ((i : ℕ) → Fits w8 (get_or img i 0)) → least ≤ n → n ≤ length img - q
+        → ReadsPart img (text-read least most) at (Ok (record { start = q; «length» = n }, q + n))
     unfolding text-read
-    text-stop {f} e d =
-        none_of {f = f}
-        (chained img (length_read least most) _ at (Stop f) n
-        (chained img (number_read most) _ at (Stop f) n (rw e at h.reads.same) refl) refl) d
+    text-whole f l k =
+        let g = rw d at h in
+        let b = slice-bytes img f in
+        record {
+          same =
+              rw (g.same, le-leb least n l, le-leb n (length (drop q img)) (rw length-drop k), all-bytes (take n (drop q img)) (bytes_take n (drop q img) (bytes_drop q img b)), drop-drop n q img);
+          within = (omega (arith, g.within), refl);
+        }
+
+pub ruleset texts = (text-stop, text-small, text-ended, text-whole, handed)
 
 -- ---- a part of the image
 

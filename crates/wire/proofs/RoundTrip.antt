@@ -9,13 +9,13 @@ use lib.Seq.{take-append_seam, length-take-le, drop_at}
 use Rattle.wire.specs.Codec.{Codec, OneForm}
 use Rattle.wire.specs.Reading.{Reads, part}
 use Rattle.wire.specs.Put.{Put}
-use Rattle.wire.specs.declared.cursor.Cursor.TheVariants.{At}
+use Rattle.std.specs.Prelude.{Ok}
 use Rattle.wire.proofs.Puts.{put_whole, put-exact, put-length}
 
 module _ {A : Type 0} (c : Codec A) (a : A) where
   -- What is written is read back: after a writer that had room, a reader at its place gives the value, and the place after it.
   pub written_read : {old new : List ℕ} {at next : ℕ} → Put old at (c.write a) next new → next ≤ length old → c.Fits a
-      → Reads new c.read (At at) a (At next)
+      → Reads new c.read at (Ok (a, next))
   written_read {old} {new} {at} {next} p h f =
       let e : next ≡ at + length (c.write a) = put-exact p (omega (arith, p.short)) in
       let w : new ≡ take at old ++ (c.write a ++ drop next old) = put_whole p h ∙ append_assoc (take at old) (c.write a) (drop next old) in
@@ -26,7 +26,7 @@ module _ {A : Type 0} (c : Codec A) (a : A) where
       record { same = rw (here, after) (c.back a (drop next old) f); within = omega (arith, put-length p) }
 
   -- What is read is written as the same bytes, so each value has one form.
-  pub read-written : OneForm c → {img : List ℕ} {at next : ℕ} → Reads img c.read (At at) a (At next) → at ≤ length img → part img at (next - at) ≡ c.write a
+  pub read-written : OneForm c → {img : List ℕ} {at next : ℕ} → Reads img c.read at (Ok (a, next)) → at ≤ length img → part img at (next - at) ≡ c.write a
   read-written one {img} {at} {next} h k =
       let f : drop at img ≡ c.write a ++ drop next img = (one.forth (drop at img) a (drop next img) h.same).0 in
       let n : next - at ≡ length (c.write a) = omega (arith, h.within, simp (length-append, length-drop) at (ap length f)) in

@@ -5,7 +5,7 @@ use Rattle.std.proofs.Common.{sym, ap, ◌∙◌, inl, inr, ⊎_elim, div-lt_iff
 use Rattle.wire.specs.Parse.{Parsed, fault, got, bind, check, Extends, bind-extends, check-extends}
 use Rattle.wire.specs.Codec.{Codec, Bytes}
 use Rattle.wire.specs.Combinators.{via, restated, only}
-use Rattle.wire.specs.declared.cursor.Fault.TheVariants.{Ended, Malformed}
+use Rattle.wire.specs.declared.fault.Fault.TheVariants.{Ended, Malformed}
 
 -- the largest that 64 bits hold
 abbrev pub edge : ℕ

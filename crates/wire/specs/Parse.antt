@@ -1,8 +1,8 @@
 -- Reading the bytes that are left: what is read with what is left after it, or the fault of the first field that is not right.
 use Rattle.std.specs.Prelude.{ℕ, ◌≡◌, refl, Bool, true, false, List, ◌++◌}
 use Rattle.std.proofs.Common.{arith}
-use Rattle.wire.specs.declared.cursor.Fault.{Fault}
-use Rattle.wire.specs.declared.cursor.Fault.TheVariants.{Ended, Malformed}
+use Rattle.wire.specs.declared.fault.Fault.{Fault}
+use Rattle.wire.specs.declared.fault.Fault.TheVariants.{Ended, Malformed}
 
 pub data Parsed (A : Type 0) : Type 0 where
   fault : Fault → Parsed A

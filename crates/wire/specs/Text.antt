@@ -6,7 +6,7 @@ use Rattle.wire.specs.Parse.{Parsed, Extends, got, bind, check}
 use Rattle.wire.specs.Codec.{Codec, Bytes, plain-append}
 use Rattle.wire.specs.Combinators.{bytes, bytes_read, only, tagged}
 use Rattle.wire.specs.Number.{edge, number_bytes, number_read, number-plain, number_to}
-use Rattle.wire.specs.declared.cursor.Fault.TheVariants.{Malformed}
+use Rattle.wire.specs.declared.fault.Fault.TheVariants.{Malformed}
 
 abbrev pub text_bytes : List ℕ → List ℕ
 text_bytes t = number_bytes (length t) ++ t

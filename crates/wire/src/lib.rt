@@ -2,7 +2,7 @@
 // Every function answers for every slice and every position, also past the end, and has a full contract.
 #![tactic(auto)]
 
-pub mod cursor;
+pub mod fault;
 pub mod number;
 pub mod order;
 pub mod part;

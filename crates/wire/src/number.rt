@@ -1,37 +1,21 @@
 // Numbers: seven bits a byte, low group first, the high bit on all bytes but the last, in the shortest form.
 ghost use Rattle.std.specs.Prelude.{◌<◌, ◌≤◌, length, ◌≡◌};
 ghost use Rattle.wire.specs.Number.{number_bytes, number_read, number-rest, tenth};
-ghost use Rattle.wire.specs.Reading.{Answers, Tenth, no_number, judged_number, last_group};
+ghost use Rattle.wire.specs.Reading.{Reads, Tenth, judged_number, last_group};
 ghost use Rattle.wire.specs.Put.{Put};
 
-use crate::cursor::{Cursor, Fault};
+use crate::fault::Fault;
 use crate::put::put_byte;
 
 // The weight of the tenth byte, which has room for one bit.
 const TENTH: u64 = 0x8000_0000_0000_0000;
 
-#[derive(Clone, Copy)]
-pub struct NumberRead {
-    pub value: u64,
-    pub next: Cursor,
-}
-
-// The number at `at`, which may be at most `most`. Where the reading stops, the value is 0.
-pub fn read_number(s: &[u8], at: Cursor, most: u64) -> NumberRead
-    ensures { Answers s.now (number_read most) at 0 result.value result.next }
-{
-    match at {
-        Cursor::At(place) => number_at(s, place, most),
-        Cursor::Stop(fault) => no_number(fault),
-    }
-}
-
-// Most numbers are one byte long.
-fn number_at(s: &[u8], at: usize, most: u64) -> NumberRead
-    ensures { Answers s.now (number_read most) (Cursor.At at) 0 result.value result.next }
+// The number at `at`, which may be at most `most`, and the place after it. Most numbers are one byte long.
+pub fn read_number(s: &[u8], at: usize, most: u64) -> Result<(u64, usize), Fault>
+    ensures { Reads s.now (number_read most) at result }
 {
     if s.len() <= at {
-        return no_number(Fault::Ended);
+        return Err(Fault::Ended);
     }
     let first = wide(s[at]);
     if first < 128 {
@@ -42,9 +26,9 @@ fn number_at(s: &[u8], at: usize, most: u64) -> NumberRead
 
 // A number from its second byte on, which is at `at`; its first group is `low`. The loop's end is no constant, so that the compiler leaves it
 // a loop, and this is small enough to be compiled into every reader.
-fn long_number(s: &[u8], at: usize, low: u64, most: u64) -> NumberRead
+fn long_number(s: &[u8], at: usize, low: u64, most: u64) -> Result<(u64, usize), Fault>
     requires { (low < 128) × (at ≤ length s.now) }
-    ensures { Answers s.now (number-rest 128 low most 8) (Cursor.At at) 0 result.value result.next }
+    ensures { Reads s.now (number-rest 128 low most 8) at result }
 {
     let mut sum = low;
     let mut weight: u64 = 128;
@@ -74,50 +58,37 @@ fn before_tenth(s: &[u8], at: usize) -> usize
 }
 
 // A number from its tenth byte on, which is at `at`; the groups before it are worth `sum`.
-fn tenth_group(s: &[u8], at: usize, sum: u64, most: u64) -> NumberRead
+fn tenth_group(s: &[u8], at: usize, sum: u64, most: u64) -> Result<(u64, usize), Fault>
     requires { sum < tenth }
-    ensures { Answers s.now (number-rest tenth sum most 0) (Cursor.At at) 0 result.value result.next }
+    ensures { Reads s.now (number-rest tenth sum most 0) at result }
 {
     if s.len() <= at {
-        return no_number(Fault::Ended);
+        return Err(Fault::Ended);
     }
     if s[at] == 1 {
         return judged(TENTH + sum, most, at + 1);
     }
-    no_number(Fault::Malformed)
+    Err(Fault::Malformed)
 }
 
 // The answer where the last group of a number of two bytes or more makes it `value`.
-fn last_group(group: u64, value: u64, most: u64, next: usize) -> NumberRead
+fn last_group(group: u64, value: u64, most: u64, next: usize) -> Result<(u64, usize), Fault>
     ensures { result ≡ last_group group value most next }
 {
     if group == 0 {
-        return no_number(Fault::Malformed);
+        return Err(Fault::Malformed);
     }
     judged(value, most, next)
 }
 
 // The answer where the number is `value`.
-fn judged(value: u64, most: u64, next: usize) -> NumberRead
+fn judged(value: u64, most: u64, next: usize) -> Result<(u64, usize), Fault>
     ensures { result ≡ judged_number value most next }
 {
     if most < value {
-        return no_number(Fault::Malformed);
+        return Err(Fault::Malformed);
     }
-    NumberRead {
-        value,
-        next: Cursor::At(next),
-    }
-}
-
-// The answer where a reading stops.
-pub fn no_number(fault: Fault) -> NumberRead
-    ensures { result ≡ no_number fault }
-{
-    NumberRead {
-        value: 0,
-        next: Cursor::Stop(fault),
-    }
+    Ok((value, next))
 }
 
 fn wide(byte: u8) -> u64

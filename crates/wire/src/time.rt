@@ -2,51 +2,34 @@
 ghost use Rattle.std.specs.Prelude.{◌≡◌};
 ghost use Rattle.std.specs.Int.{w64};
 ghost use Rattle.std.proofs.Common.{SFits};
-ghost use Rattle.wire.specs.Time.{zigzag as zigzagged, unzigzag as unzigzagged, time as timeCodec, epoch};
-ghost use Rattle.wire.specs.Reading.{Answers};
+ghost use Rattle.wire.specs.Time.{zigzag as zigzagged, unzigzag as unzigzagged, time as timeCodec};
+ghost use Rattle.wire.specs.Reading.{Reads};
 ghost use Rattle.wire.specs.Put.{Put};
 
-use crate::cursor::Cursor;
+use crate::fault::Fault;
 use crate::number::{put_number, read_number};
 
-const LAST_NANO: u64 = 999_999_999;
+// The largest number of nanoseconds.
+pub const LAST_NANO: u64 = 999_999_999;
 
-#[derive(Clone, Copy)]
+#[derive(Clone, Copy, PartialEq, Eq)]
 pub struct Time {
     pub seconds: i64,
     pub nanos: u32,
 }
 
-#[derive(Clone, Copy)]
-pub struct TimeRead {
-    pub time: Time,
-    pub next: Cursor,
-}
-
-// The time at `at`. Where the reading stops, it is the second 0 of 1970.
-pub fn read_time(s: &[u8], at: Cursor) -> TimeRead
-    ensures { Answers s.now timeCodec.read at epoch result.time result.next }
+// The time at `at`, and the place after it.
+#[tactic(auto, using(crate::proofs::Readers::times), unfolding(crate::specs::Time::time))]
+pub fn read_time(s: &[u8], at: usize) -> Result<(Time, usize), Fault>
+    ensures { Reads s.now timeCodec.read at result }
 {
-    let seconds = read_number(s, at, 0xFFFF_FFFF_FFFF_FFFF);
-    let middle = seconds.next;
-    let nanos = read_number(s, middle, LAST_NANO);
-    let next = nanos.next;
-    match next {
-        Cursor::At(place) => TimeRead {
-            time: Time {
-                seconds: unzigzag(seconds.value),
-                nanos: nanos.value as u32,
-            },
-            next: Cursor::At(place),
-        },
-        Cursor::Stop(fault) => TimeRead {
-            time: Time {
-                seconds: 0,
-                nanos: 0,
-            },
-            next: Cursor::Stop(fault),
-        },
-    }
+    let (seconds, middle) = read_number(s, at, u64::MAX)?;
+    let (nanos, next) = read_number(s, middle, LAST_NANO)?;
+    let time = Time {
+        seconds: unzigzag(seconds),
+        nanos: nanos as u32,
+    };
+    Ok((time, next))
 }
 
 // The number that stands for a signed one.

@@ -1,3 +1,4 @@
+use Prim.Native.Nat.{◌-◌}
 use Rattle.wire.specs.Orders.{by_bytes}
 use Rattle.image.specs.FieldLayout.{name}
 use Rattle.image.specs.Under.{under}
@@ -5,8 +6,5 @@ use Rattle.image.specs.Places.{name_before}
 use Rattle.image.proofs.Passing.{Passed}
 use Rattle.image.proofs.name.names_from.Given as goal
 
-abbrev pub invariant-loop-left : goal.invariant-loop-left
-invariant-loop-left l = Passed by_bytes name (under l.what) l.img l.first l.count (name_before l.img l.start l.size) l.here l.left
-
-abbrev pub decreases-loop-left : goal.decreases-loop-left
-decreases-loop-left l = l.left
+abbrev pub invariant-loop-row : goal.invariant-loop-row
+invariant-loop-row l = Passed by_bytes name (under l.what) l.img l.first l.count (name_before l.img l.before) l.here (l.count - l._row)

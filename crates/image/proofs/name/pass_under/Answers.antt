@@ -1,9 +1,8 @@
-use Rattle.image.proofs.Passing.{ends_of}
-use Rattle.wire.proofs.Readers.{read-end}
+use mathlib.Core.Path.{refl}
 use Rattle.image.proofs.name.pass_under.Goals as goal
 
 pub returns-in-Nothing : goal.returns-in-Nothing
-returns-in-Nothing c = rw c.in-Nothing.is (ends_of (read-end _ c.requires))
+returns-in-Nothing c = rw c.in-Nothing.is (record { same = refl; within = c.requires })
 
 pub returns-in-Inode : goal.returns-in-Inode
 returns-in-Inode c = rw c.in-Inode.is c.pass_number.ensures

@@ -1,27 +1,15 @@
 use native.Mathlib.Omega.{arith}
 use Rattle.wire.proofs.Readers.{number-most}
-use Rattle.image.specs.NodeLayout.{meta, meta_of}
-use Rattle.nodes.proofs.Values.{reads_made, reads-pair}
 use Rattle.nodes.proofs.node.read_meta.Goals as goal
 
-pub overflow_cast-result : goal.overflow_cast-result
-overflow_cast-result c = omega (arith, number-most _ _ c.read_number-perm.ensures)
+pub overflow_cast-meta : goal.overflow_cast-meta
+overflow_cast-meta c = omega (arith, number-most c.read_number.ensures c.in_ok-perm.was)
 
-pub overflow_cast-result-2 : goal.overflow_cast-result-2
-overflow_cast-result-2 c = omega (arith, number-most _ _ c.read_number-nlink.ensures)
+pub overflow_cast-meta-2 : goal.overflow_cast-meta-2
+overflow_cast-meta-2 c = omega (arith, number-most c.read_number-2.ensures c.in_ok-nlink.was)
 
-pub overflow_cast-result-3 : goal.overflow_cast-result-3
-overflow_cast-result-3 c = omega (arith, number-most _ _ c.read_number-uid.ensures)
+pub overflow_cast-meta-3 : goal.overflow_cast-meta-3
+overflow_cast-meta-3 c = omega (arith, number-most c.read_number-3.ensures c.in_ok-uid.was)
 
-pub overflow_cast-result-4 : goal.overflow_cast-result-4
-overflow_cast-result-4 c = omega (arith, number-most _ _ c.read_number-gid.ensures)
-
-pub returns : goal.returns
-unfolding meta
-returns c = record {
-  reads =
-      reads_made _ meta_of
-      (reads-pair _ _ c.read_number-perm.ensures.reads (reads-pair _ _ c.read_number-nlink.ensures.reads (reads-pair _ _ c.read_number-uid.ensures.reads (reads-pair _ _ c.read_number-gid.ensures.reads
-      (reads-pair _ _ c.read_time-access.ensures.reads (reads-pair _ _ c.read_time-modification.ensures.reads (reads-pair _ _ c.read_time-change.ensures.reads c.read_names-list.ensures.reads)))))));
-  attributes = c.read_names-list.ensures.listed;
-}
+pub overflow_cast-meta-4 : goal.overflow_cast-meta-4
+overflow_cast-meta-4 c = omega (arith, number-most c.read_number-4.ensures c.in_ok-gid.was)

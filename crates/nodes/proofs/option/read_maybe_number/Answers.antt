@@ -1,9 +1,8 @@
-use Rattle.wire.proofs.Readers.{number-most}
-use Rattle.nodes.proofs.Values.{reads_none, reads-some, reads-maybe}
+use Rattle.wire.proofs.Readers.{number-most, handed}
+use Rattle.nodes.proofs.Values.{some-stops, reads-maybe}
 use Rattle.nodes.proofs.option.read_maybe_number.Goals as goal
 
-pub returns-then-bit-eq0 : goal.returns-then-bit-eq0
-returns-then-bit-eq0 c = reads-maybe _ c.read_number-bit.ensures (reads_none _ c.if-bit-eq0.true c.read_number-bit.ensures.reads.within)
-
-pub returns : goal.returns
-returns c = reads-maybe _ c.read_number-bit.ensures (reads-some _ c.if-bit-eq0.false (number-most _ _ c.read_number-bit.ensures) c.read_number-number.ensures.reads)
+pub returns-in_err-number : goal.returns-in_err-number
+returns-in_err-number c =
+    rw (handed c.from_residual-in_err-number.ensures)
+    (reads-maybe _ c.read_number.ensures c.in_ok-bit.was (some-stops _ c.if-bit-eq0.false (number-most c.read_number.ensures c.in_ok-bit.was) c.read_number-2.ensures c.in_err-number.was))

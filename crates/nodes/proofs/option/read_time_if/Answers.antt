@@ -1,8 +1,6 @@
-use Rattle.nodes.proofs.Values.{reads_none, reads-some}
+use Rattle.wire.proofs.Readers.{handed}
+use Rattle.nodes.proofs.Values.{some-stops}
 use Rattle.nodes.proofs.option.read_time_if.Goals as goal
 
-pub returns-then-bit-eq0 : goal.returns-then-bit-eq0
-returns-then-bit-eq0 c = reads_none _ c.if-bit-eq0.true c.requires.1
-
-pub returns : goal.returns
-returns c = reads-some _ c.if-bit-eq0.false c.requires.0 c.read_time-moment.ensures.reads
+pub returns-in_err-time : goal.returns-in_err-time
+returns-in_err-time c = rw (handed c.from_residual.ensures) (some-stops _ c.if-bit-eq0.false c.requires.0 c.read_time.ensures c.in_err-time.was)

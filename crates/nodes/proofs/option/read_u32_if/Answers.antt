@@ -1,13 +1,6 @@
-use native.Mathlib.Omega.{arith}
-use Rattle.wire.proofs.Readers.{number-most}
-use Rattle.nodes.proofs.Values.{reads_none, reads-some}
+use Rattle.wire.proofs.Readers.{handed}
+use Rattle.nodes.proofs.Values.{some-stops}
 use Rattle.nodes.proofs.option.read_u32_if.Goals as goal
 
-pub returns-then-bit-eq0 : goal.returns-then-bit-eq0
-returns-then-bit-eq0 c = reads_none _ c.if-bit-eq0.true c.requires.1
-
-pub overflow_cast-result : goal.overflow_cast-result
-overflow_cast-result c = omega (arith, number-most _ _ c.read_number-number.ensures)
-
-pub returns : goal.returns
-returns c = reads-some _ c.if-bit-eq0.false c.requires.0 c.read_number-number.ensures.reads
+pub returns-in_err-number : goal.returns-in_err-number
+returns-in_err-number c = rw (handed c.from_residual.ensures) (some-stops _ c.if-bit-eq0.false c.requires.0 c.read_number.ensures c.in_err-number.was)

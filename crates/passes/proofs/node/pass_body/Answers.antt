@@ -1,13 +1,17 @@
+use native.Mathlib.Omega.{arith}
 use borrow.Author.Rules.{rules}
-use Rattle.image.proofs.Passing.{ends-then}
+use Rattle.image.proofs.Passing.{passes}
 use Rattle.image.proofs.Constructs.{passes-nothing}
 use Rattle.passes.proofs.node.pass_body.Goals as goal
 
-pub returns-in-0 : goal.returns-in-0
-returns-in-0 c = rw c.in-0.is (ends-then _ _ (λ a b. (a, b)) c.pass_number-entries.ensures c.pass_names.ensures)
+pub returns-in_err-entries-in-0 : goal.returns-in_err-entries-in-0
+returns-in_err-entries-in-0 c = rw c.in-0.is (search (passes, arith))
+
+pub returns-in_ok-entries-in-0 : goal.returns-in_ok-entries-in-0
+returns-in_ok-entries-in-0 c = rw c.in-0.is (search (passes, arith))
 
 pub returns-in-1 : goal.returns-in-1
-returns-in-1 c = rw c.in-1.is c.pass_number.ensures
+returns-in-1 c = rw c.in-1.is c.pass_number-in-1.ensures
 
 pub returns-in-2 : goal.returns-in-2
 returns-in-2 c = rw c.in-2.is c.pass_text.ensures

@@ -2,4 +2,4 @@ use Rattle.image.proofs.Passing.{ends-then}
 use Rattle.passes.proofs.record.pass_later_fields.Goals as goal
 
 pub returns : goal.returns
-returns c = (ends-then _ _ (λ a b. (a, b)) c.pass_time_if-mtime.ensures (ends-then _ _ (λ a b. (a, b)) c.pass_time_if-ctime.ensures (ends-then _ _ (λ a b. (a, b)) c.pass_time_if-created.ensures (ends-then _ _ (λ a b. (a, b)) c.pass_time_if-attributes.ensures c.pass_changes_if.ensures))))
+returns c = ends-then _ (λ a b. (a, b)) c.pass_time_if.ensures c.in_ok-mtime.was (ends-then _ (λ a b. (a, b)) c.pass_time_if-2.ensures c.in_ok-ctime.was (ends-then _ (λ a b. (a, b)) c.pass_time_if-3.ensures c.in_ok-created.was (ends-then _ (λ a b. (a, b)) c.pass_time_if-4.ensures c.in_ok-attributes.was (c.pass_changes_if.ensures))))

@@ -1,19 +1,22 @@
-use mathlib.Core.Path.{refl}
 use native.Mathlib.Omega.{arith}
-use Rattle.survey.proofs.Batches.{going_start, going-all, going-stop, going_on}
+use Rattle.wire.proofs.Readers.{handed}
+use Rattle.survey.proofs.Batches.{going-all, going-unkeyed, going-headless, going-stop, going_on}
 use Rattle.survey.proofs.batch.gather_batches.Goals as goal
 
-pub loop-left-init : goal.loop-left-init
-loop-left-init c = going_start c.requires.0 refl
+pub returns-in_err-id : goal.returns-in_err-id
+returns-in_err-id c = going-unkeyed c.loop-batch.invariant (omega arith) c.inode_after.ensures c.in_err-id.was (handed c.from_residual.ensures)
 
-pub returns-in_default : goal.returns-in_default
-returns-in_default c = going-stop c.loop-left.invariant c.loop-left-test.true c.inode_after-id.ensures c.pass_head_rest-records.ensures c.find_inode-found.ensures c.in_default.is
+pub returns-in_err-records : goal.returns-in_err-records
+returns-in_err-records c =
+    going-headless c.loop-batch.invariant (omega arith) c.inode_after.ensures c.in_ok-id.was c.pass_head_rest.ensures c.in_err-records.was (handed c.from_residual-in_err-records.ensures)
 
-pub pushed-gathered-requires : goal.pushed-gathered-requires
-pushed-gathered-requires c = (omega (arith, c.loop-left.invariant.few, c.requires.1), c.loop-left.invariant.wide)
+pub returns-in_err-place : goal.returns-in_err-place
+returns-in_err-place c =
+    going-stop c.loop-batch.invariant (omega arith) c.inode_after.ensures c.in_ok-id.was c.pass_head_rest.ensures c.in_ok-records.was c.find_inode.ensures c.in_err-place.was (handed c.from_residual-in_err-place.ensures)
 
-pub loop-left-preserved : goal.loop-left-preserved
-loop-left-preserved c = going_on c.loop-left.invariant c.loop-left-test.true c.inode_after-id.ensures c.pass_head_rest-records.ensures c.find_inode-found.ensures c.in-At.is c.pushed-gathered.ensures
+pub loop-batch-preserved : goal.loop-batch-preserved
+loop-batch-preserved c =
+    going_on c.loop-batch.invariant (omega arith) c.inode_after.ensures c.in_ok-id.was c.pass_head_rest.ensures c.in_ok-records.was c.find_inode.ensures c.in_ok-place.was c.pushed-stack.ensures (omega arith)
 
 pub returns : goal.returns
-returns c = going-all c.loop-left.invariant c.loop-left-test.false
+returns c = going-all c.loop-batch.invariant (omega arith)

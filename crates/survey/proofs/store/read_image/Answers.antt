@@ -1,12 +1,15 @@
-use mathlib.Core.Path.{◌≡◌, refl, ◌∙◌}
-use Prim.Native.Nat.{ℕ}
-use native.Mathlib.Omega.{arith}
-use Rattle.survey.proofs.Stores.{is-long, verdict-known}
+use Rattle.wire.proofs.Readers.{handed}
+use Rattle.survey.proofs.Stores.{judged-long, judged-broken, judged-longer, judged-fine}
 use Rattle.survey.proofs.store.read_image.Goals as goal
 
 pub returns-then-img-gt65536 : goal.returns-then-img-gt65536
-returns-then-img-gt65536 c = record { verdict = is-long _ c.if-img-gt65536.true; survey = (λ z. absurd (let y : ◌≡◌ {A = ℕ} 0 1 = cc in omega arith)) }
+returns-then-img-gt65536 c = judged-long c.if-img-gt65536.true
+
+pub returns-in_err-survey : goal.returns-in_err-survey
+returns-in_err-survey c = judged-broken c.if-img-gt65536.false c.survey_store.ensures c.in_err-survey.was (handed c.from_residual.ensures)
+
+pub returns-then-follows : goal.returns-then-follows
+returns-then-follows c = judged-longer c.if-img-gt65536.false c.survey_store.ensures c.in_ok-survey.was c.if-follows.true
 
 pub returns : goal.returns
-returns c = let found = c.survey_store-survey.ensures in
-    record { verdict = c.verdict_at-verdict.ensures ∙ verdict-known found.surveys c.if-img-gt65536.false _ refl; survey = λ z. found }
+returns c = judged-fine c.if-img-gt65536.false c.survey_store.ensures c.in_ok-survey.was c.if-follows.false

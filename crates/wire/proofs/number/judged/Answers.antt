@@ -1,9 +1,8 @@
 use borrow.Author.Tests.{lt-ltb, le-ltb}
-use mathlib.Core.Path.{◌∙◌}
 use Rattle.wire.proofs.number.judged.Goals as goal
 
 pub returns-then-most-value : goal.returns-then-most-value
-returns-then-most-value c = c.no_number.ensures ∙ simp (lt-ltb _ _ c.if-most-value.true)
+returns-then-most-value c = simp (lt-ltb _ _ c.if-most-value.true)
 
 pub returns : goal.returns
 returns c = simp (le-ltb _ _ c.if-most-value.false)

@@ -1,9 +1,12 @@
-use mathlib.Core.Path.{refl}
-use Rattle.wire.proofs.Groups.{answer-none}
+use native.Mathlib.Omega.{arith}
+use Rattle.wire.proofs.Groups.{first-end, first-only, first-long}
 use Rattle.wire.proofs.number.read_number.Goals as goal
 
-pub returns-in-At : goal.returns-in-At
-returns-in-At c = rw c.in-At.is c.number_at.ensures
+pub returns-then-s-at : goal.returns-then-s-at
+returns-then-s-at c = search first-end
 
-pub returns-in-Stop : goal.returns-in-Stop
-returns-in-Stop c = rw c.in-Stop.is (answer-none refl c.no_number.ensures)
+pub returns-then-first-lt128 : goal.returns-then-first-lt128
+returns-then-first-lt128 c = search (first-only, arith)
+
+pub returns : goal.returns
+returns c = search (first-long, arith)

@@ -1,9 +1,0 @@
-use Rattle.image.proofs.Passing.{ends-chosen}
-use Rattle.wire.proofs.Readers.{number-most}
-use Rattle.image.proofs.field.pass_maybe_text.Goals as goal
-
-pub pass_text_if-requires : goal.pass_text_if-requires
-pass_text_if-requires c = (number-most _ _ c.read_number-bit.ensures, c.read_number-bit.ensures.reads.within)
-
-pub returns : goal.returns
-returns c = ends-chosen _ _ c.read_number-bit.ensures.reads c.pass_text_if.ensures
