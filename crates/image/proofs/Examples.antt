@@ -1,8 +1,8 @@
 -- Document 01's images on paper.
+use Rattle.std.specs.Prelude.{Some}
 use Prim.Native.Nat.{ℕ}
 use mathlib.Core.Path.{◌≡◌, refl}
 use mathlib.Core.List.{List, [], ◌∷◌}
-use mathlib.Core.Option.{some}
 use native.Mathlib.Omega.{arith}
 use Rattle.wire.specs.declared.fault.Fault.TheVariants.{Ended}
 use Rattle.wire.specs.Parse.{fault, got}
@@ -44,6 +44,6 @@ root_node = record {
 
 -- the root on paper: inode 1 alone, a directory with permission 755 and 2 links
 root : read_image (1 ∷ 1 ∷ 0 ∷ 0xED ∷ 3 ∷ 2 ∷ 0 ∷ 0 ∷ 0 ∷ 0 ∷ 0 ∷ 0 ∷ 0 ∷ 0 ∷ 0 ∷ 1 ∷ 0 ∷ 0 ∷ 0 ∷ 1 ∷ 0 ∷ 0 ∷ 0 ∷ [])
-    ≡ got (alone (put by_number 1 (some root_node) (empty by_number))) []
+    ≡ got (alone (put by_number 1 (Some root_node) (empty by_number))) []
 unfolding store batches node meta kind time empty put set insert number_bytes groups
-root = image-of (alone (put by_number 1 (some root_node) (empty by_number))) _ (omega arith) refl
+root = image-of (alone (put by_number 1 (Some root_node) (empty by_number))) _ (omega arith) refl

@@ -1,14 +1,14 @@
 -- What a place in a list holds: what its map has under the key.
 -- Assumes nothing.
+use Rattle.std.specs.Prelude.{None, Option, Some}
 use mathlib.Core.Path.{◌≡◌, refl, sym, ap, ◌∙◌, subst}
 use mathlib.Core.List.{List, [], ◌∷◌, ◌++◌}
-use mathlib.Core.Option.{Option, none, some}
 use Prim.Native.Nat.{ℕ, zero, suc, ◌+◌, ◌-◌, ◌≤◌}
 use native.Mathlib.Omega.{arith}
 use lib.ListN.{length, drop, length-append, length-drop}
 use lib.Seq.{drop-drop, drop-append_seam}
-use Rattle.wire.specs.declared.order.Ordering.{Ordering}
-use Rattle.wire.specs.declared.order.Ordering.TheVariants.{Less, Equal, Greater}
+use Rattle.std.specs.declared.cmp.Ordering.{Ordering}
+use Rattle.std.specs.declared.cmp.Ordering.TheVariants.{Less, Equal, Greater}
 use Rattle.wire.specs.declared.fault.Fault.TheVariants.{Malformed}
 use Rattle.wire.specs.Parse.{Parsed, got, bind, check, never-got, bind_inv, check_inv}
 use Rattle.wire.specs.Codec.{Codec, OneForm}
@@ -50,7 +50,7 @@ module _ {K A : Type 0} (O : Order K) (key : Codec K) (value : Codec A) (img : L
 
   -- by whether the row has the key
   here : (o : Ordering) (p : Option ℕ) (w : Option A) {s q : List ℕ} {v : A} → Suffix img s → value.read s ≡ got v q → Holds img value.read p w
-      → Holds img value.read (choose o (some (length img - length s)) p) (choose o (some v) w)
+      → Holds img value.read (choose o (Some (length img - length s)) p) (choose o (Some v) w)
   here Less p w u e h = h
   here Greater p w u e h = h
   here Equal p w {q = q} u e h = (q, rw (← u.is) e)
@@ -79,9 +79,9 @@ module _ {K A : Type 0} (O : Order K) (key : Codec K) (value : Codec A) (img : L
         valued = j.2 ∙ (λ x. got (eb x) (eq x));
       }
 
-  mapped-is : (o : Option (Map O A)) (q : List ℕ) {m : Map O A} {r : List ℕ} → mapped O key value last_count refl o q ≡ got m r → o ≡ some m
-  mapped-is none q e = never-got e
-  mapped-is (some x) q e = cc
+  mapped-is : (o : Option (Map O A)) (q : List ℕ) {m : Map O A} {r : List ℕ} → mapped O key value last_count refl o q ≡ got m r → o ≡ Some m
+  mapped-is None q e = never-got e
+  mapped-is (Some x) q e = cc
 
   none-holds : (s : List ℕ) (l : List (K × A)) → [] ≡ l → Holds img value.read (place_under O key value (length img) k 0 s) (lookup O k l)
   unfolding place_under lookup
@@ -103,12 +103,12 @@ module _ {K A : Type 0} (O : Order K) (key : Codec K) (value : Codec A) (img : L
         → Holds img value.read (place_under O key value (length img) k n s) (lookup O k l)
     rows-hold zero prev s {l} w d = none-holds s l cc
     rows-hold (suc n) prev s {l} {r} w d =
-        let i = bind_inv ((row O key value prev).read s) (λ a t. bind (rows_from O key value n (some a.0) t) (λ m q. got (a ∷ m) q)) d in
-        let j = bind_inv (rows_from O key value n (some i.0.0) i.1) (λ m q. got (i.0 ∷ m) q) i.3 in
+        let i = bind_inv ((row O key value prev).read s) (λ a t. bind (rows_from O key value n (Some a.0) t) (λ m q. got (a ∷ m) q)) d in
+        let j = bind_inv (rows_from O key value n (Some i.0.0) i.1) (λ m q. got (i.0 ∷ m) q) i.3 in
         let e1 : got (i.0 ∷ j.0) j.1 ≡ got l r = j.3 in
         let el : i.0 ∷ j.0 ≡ l = cc in
         subst (λ (m : List (K × A)). Holds img value.read (place_under O key value (length img) k (suc n) s) (lookup O k m)) el
-        (row-holds n s i.0 i.1 j.0 w (apart prev s i.2) (λ u. rows-hold n (some i.0.0) i.1 u j.2))
+        (row-holds n s i.0 i.1 j.0 w (apart prev s i.2) (λ u. rows-hold n (Some i.0.0) i.1 u j.2))
 
     -- the place of a key in a whole list holds what its map has under it
     pub list-holds : (n : ℕ) {m : Map O A} {r : List ℕ} → n ≤ length img → (rising O key value last_count refl).read (drop n img) ≡ got m r
@@ -116,11 +116,11 @@ module _ {K A : Type 0} (O : Order K) (key : Codec K) (value : Codec A) (img : L
     unfolding rising-read get
     list-holds n {m} {r} h d =
         let i = bind_inv ((rows O key value last_count refl).read (drop n img)) (λ l t. mapped O key value last_count refl (as_map O l) t) d in
-        let j = bind_inv (number_read last_count (drop n img)) (λ c t. rows_from O key value c none t) i.2 in
+        let j = bind_inv (number_read last_count (drop n img)) (λ c t. rows_from O key value c None t) i.2 in
         let e : m.rows ≡ i.0 = rows-as_map O i.0 m (mapped-is (as_map O i.0) i.1 i.3) in
         let u = suffix-rest (number_to last_count refl) (number_to-one last_count refl) (suffix-drop img n h) j.2 in
         let p : place_in O key value img k n ≡ place_under O key value (length img) k j.0 j.1 =
         ap (λ (o : Parsed ℕ). if_read o (λ c t. place_under O key value (length img) k c t)) j.2 in
-        let h = rows-hold j.0 none j.1 u j.3 in
+        let h = rows-hold j.0 None j.1 u j.3 in
         subst (λ (o : Option ℕ). Holds img value.read o (lookup O k m.rows)) (sym p)
         (subst (λ (l : List (K × A)). Holds img value.read (place_under O key value (length img) k j.0 j.1) (lookup O k l)) (sym e) h)

@@ -1,7 +1,6 @@
 -- Each format of the image has one form, and so has the image.
 -- Assumes nothing.
-use Rattle.std.specs.Prelude.{List, ℕ, ◌%◌, ◌/◌, ◌≤◌, ◌≡◌, refl, true, leb, length}
-use Rattle.std.proofs.Math.Option.{Option, none, some}
+use Rattle.std.specs.Prelude.{List, ℕ, ◌%◌, ◌/◌, ◌≤◌, ◌≡◌, refl, true, leb, length, None, Option, Some}
 use Rattle.std.proofs.Common.{arith}
 use Rattle.wire.specs.Codec.{Codec, OneForm}
 use Rattle.wire.specs.Combinators.{nothing, seq, ◌then◌, tagged, optional}
@@ -159,8 +158,8 @@ change_part-one symlink = maybe-one target target-one
 change_part-one (special s) = word-one
 
 pub code_part-one : (c : Option Kind) → OneForm (code_part c)
-code_part-one none = nothing-one
-code_part-one (some k) = then-one fields (change_part k) fields-one (change_part-one k)
+code_part-one None = nothing-one
+code_part-one (Some k) = then-one fields (change_part k) fields-one (change_part-one k)
 
 pub plain_record-one : OneForm plain_record
 plain_record-one =
@@ -191,8 +190,8 @@ batch_after-one prev =
 
 pub plain_batches-one : OneForm plain_batches
 plain_batches-one =
-    tagged-one (number_to 16 refl) length (chain batch_after id_of none) (λ n l h. h.0) (number_to-one 16 refl)
-    (chain-one batch_after id_of batch_after-one none)
+    tagged-one (number_to 16 refl) length (chain batch_after id_of None) (λ n l h. h.0) (number_to-one 16 refl)
+    (chain-one batch_after id_of batch_after-one None)
 
 pub batches-one : OneForm batches
 unfolding batches

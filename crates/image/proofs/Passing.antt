@@ -3,8 +3,7 @@
 use mathlib.Core.Path.{◌≡◌, refl, sym, ap, ◌∙◌}
 use mathlib.Core.Bool.{Bool, true, false}
 use mathlib.Core.List.{List, ◌∷◌}
-use mathlib.Core.Option.{Option, none, some}
-use Rattle.std.specs.Prelude.{Result, Ok, Err}
+use Rattle.std.specs.Prelude.{Result, Ok, Err, None, Option, Some}
 use Rattle.wire.specs.declared.text.Part.{Part}
 use Prim.Native.Nat.{ℕ, zero, suc, ◌-◌, ◌≤◌, ◌<◌}
 use native.Mathlib.Omega.{arith}
@@ -111,7 +110,7 @@ module _ {A : Type 0} (p : List ℕ → Parsed A) {img : List ℕ} {bit at : ℕ
 
   pub ends-present : {r : Result ℕ Fault} → (bit ≡ 0 → ⊥) → bit ≤ 1 → Ends img p at r → Ends img (opt-read p bit) at r
   unfolding opt-read
-  ends-present n l h = let e : bit ≡ 1 = omega arith in rw e (ends-made some h)
+  ends-present n l h = let e : bit ≡ 1 = omega arith in rw e (ends-made Some h)
 
 pub ruleset passes = (ends-read, ends-unread, ends-text, ends-no_text, ends-chosen, ends-unchosen, ends-then, ends-stop, ends-made, ends-absent, ends-present, number-most, read-in, handed)
 
@@ -124,14 +123,14 @@ module _ {K A : Type 0} (O : Order K) (key : Codec K) (value : Codec A) where
   abbrev key_after : Option K → List ℕ → Parsed K
   key_after prev = (only (after O prev) key).read
 
-  later : (prev : Option K) (e : K × A) (o : Parsed (List (K × A))) → last_of prev (bind o (λ l r. got (e ∷ l) r)) ≡ last_of (some e.0) o
+  later : (prev : Option K) (e : K × A) (o : Parsed (List (K × A))) → last_of prev (bind o (λ l r. got (e ∷ l) r)) ≡ last_of (Some e.0) o
   later prev e (fault f) = refl
   later prev e (got l r) = refl
 
   rows_step : (n : ℕ) (prev : Option K) (s r : List ℕ) {k : K} {v : A} → 0 < n → (row O key value prev).read s ≡ got (k, v) r
-      → last_of prev (rows_from O key value n prev s) ≡ last_of (some k) (rows_from O key value (n - 1) (some k) r)
+      → last_of prev (rows_from O key value n prev s) ≡ last_of (Some k) (rows_from O key value (n - 1) (Some k) r)
   rows_step zero prev s r h e = absurd (omega arith)
-  rows_step (suc n) prev s r {k} {v} h e = rw (e, one_less n) (later prev (k, v) (rows_from O key value n (some k) r))
+  rows_step (suc n) prev s r {k} {v} h e = rw (e, one_less n) (later prev (k, v) (rows_from O key value n (Some k) r))
 
   module _ {img : List ℕ} {here n : ℕ} (prev : Option K) (h : 0 < n) where
     rows-unkeyed : {f : Fault} → Reads img (key_after prev) here (Err f) → last_of prev (rows_from O key value n prev (drop here img)) ≡ fault f
@@ -142,7 +141,7 @@ module _ {K A : Type 0} (O : Order K) (key : Codec K) (value : Codec A) where
         go (suc n) h = rw (a.same)
 
     module _ {k : K} {m : ℕ} (a : Reads img (key_after prev) here (Ok (k, m))) where
-      rows_on : {q : ℕ} → Ends img value.read m (Ok q) → last_of prev (rows_from O key value n prev (drop here img)) ≡ last_of (some k) (rows_from O key value (n - 1) (some k) (drop q img))
+      rows_on : {q : ℕ} → Ends img value.read m (Ok q) → last_of prev (rows_from O key value n prev (drop here img)) ≡ last_of (Some k) (rows_from O key value (n - 1) (Some k) (drop q img))
       rows_on {q} b = let g = ends-got b in rows_step n prev (drop here img) (drop q img) {k = k} {v = g.0} h (rw (a.same, g.1))
 
       rows-fault : {f : Fault} → Ends img value.read m (Err f) → last_of prev (rows_from O key value n prev (drop here img)) ≡ fault f
@@ -163,20 +162,20 @@ module _ {K A : Type 0} (O : Order K) (key : Codec K) (value : Codec A) where
     rising-passed s (fault f) e = rw e
     rising-passed s (got l r) e =
         let w = ((rows-one O key value one_key one_value most limit).forth s l r e).1 in
-        let m : Map O A = record { rows = l; rising = (all-rising O key value none l w.1.1).1.0 } in
+        let m : Map O A = record { rows = l; rising = (all-rising O key value None l w.1.1).1.0 } in
         rw (e, as_map-rows O m)
 
     -- the count, and the rows after it
     pub ends-list : {img : List ℕ} {at m n : ℕ} {o : Result (ℕ × ℕ) Fault} {r : Result ℕ Fault} → Reads img (number_read most) at o → o ≡ Ok (n, m)
-        → Ends img (rows_from O key value n none) m r → Ends img (rising O key value most limit).read at r
+        → Ends img (rows_from O key value n None) m r → Ends img (rising O key value most limit).read at r
     ends-list {img} {at} h d g =
-        let i : Ends img (rows O key value most limit).read at _ = ends-chosen (λ n r. rows_from O key value n none r) h d g in
+        let i : Ends img (rows O key value most limit).read at _ = ends-chosen (λ n r. rows_from O key value n None r) h d g in
         record { same = rising-passed (drop at img) ((rows O key value most limit).read (drop at img)) refl ∙ i.same; within = i.within }
 
     pub ends-unlisted : {img : List ℕ} {at : ℕ} {o : Result (ℕ × ℕ) Fault} {r : Result ℕ Fault} {f : Fault} → Reads img (number_read most) at o → o ≡ Err f → r ≡ Err f
         → Ends img (rising O key value most limit).read at r
     ends-unlisted {img} {at} h d e =
-        let i : Ends img (rows O key value most limit).read at _ = ends-unchosen (λ n r. rows_from O key value n none r) h d e in
+        let i : Ends img (rows O key value most limit).read at _ = ends-unchosen (λ n r. rows_from O key value n None r) h d e in
         record { same = rising-passed (drop at img) ((rows O key value most limit).read (drop at img)) refl ∙ i.same; within = i.within }
 
 last-passed : {K A : Type 0} (prev : Option K) {last : Option K} (o : Parsed (List (K × A))) {r : List ℕ} → last_of prev o ≡ got last r → passed o ≡ got tt r
@@ -189,36 +188,36 @@ last-fault prev (got l q) e = never-got (sym e)
 
 -- The loop over the rows has come to `here`, where `left` are left after the key `prev`.
 pub record Passed {K A : Type 0} (O : Order K) (key : Codec K) (value : Codec A) (img : List ℕ) (first n : ℕ) (prev : Option K) (here left : ℕ) : Type 0 where
-  pub same : last_of none (rows_from O key value n none (drop first img)) ≡ last_of prev (rows_from O key value left prev (drop here img))
+  pub same : last_of None (rows_from O key value n None (drop first img)) ≡ last_of prev (rows_from O key value left prev (drop here img))
   pub within : here ≤ length img
 
 module _ {K A : Type 0} {O : Order K} {key : Codec K} {value : Codec A} {img : List ℕ} {first n : ℕ} where
-  pub passed_start : {left : ℕ} → first ≤ length img → left ≡ n → Passed O key value img first n none first left
+  pub passed_start : {left : ℕ} → first ≤ length img → left ≡ n → Passed O key value img first n None first left
   passed_start h e = rw e (record { same = refl; within = h })
 
   module _ {prev : Option K} {here left : ℕ} (p : Passed O key value img first n prev here left) where
     -- the last key
-    pub passed-last : left ≤ 0 → last_of none (rows_from O key value n none (drop first img)) ≡ got prev (drop here img)
+    pub passed-last : left ≤ 0 → last_of None (rows_from O key value n None (drop first img)) ≡ got prev (drop here img)
     passed-last h = p.same ∙ rows_none O key value left prev (drop here img) h
 
-    pub passed-all : left ≤ 0 → Ends img (rows_from O key value n none) first (Ok here)
-    passed-all h = record { same = last-passed none (rows_from O key value n none (drop first img)) (passed-last h); within = p.within }
+    pub passed-all : left ≤ 0 → Ends img (rows_from O key value n None) first (Ok here)
+    passed-all h = record { same = last-passed None (rows_from O key value n None (drop first img)) (passed-last h); within = p.within }
 
     module _ (h : 0 < left) {o : Result (K × ℕ) Fault} (a : Reads img (only (after O prev) key).read here o) where
       stop : {r : Result ℕ Fault} {f : Fault} → last_of prev (rows_from O key value left prev (drop here img)) ≡ fault f → r ≡ Err f
-          → Ends img (rows_from O key value n none) first r
-      stop d e = rw e (record { same = last-fault none (rows_from O key value n none (drop first img)) (p.same ∙ d); within = tt })
+          → Ends img (rows_from O key value n None) first r
+      stop d e = rw e (record { same = last-fault None (rows_from O key value n None (drop first img)) (p.same ∙ d); within = tt })
 
       -- the key stops
-      pub passed-unkeyed : {r : Result ℕ Fault} {f : Fault} → o ≡ Err f → r ≡ Err f → Ends img (rows_from O key value n none) first r
+      pub passed-unkeyed : {r : Result ℕ Fault} {f : Fault} → o ≡ Err f → r ≡ Err f → Ends img (rows_from O key value n None) first r
       passed-unkeyed d e = stop (rows-unkeyed O key value prev h (rw d at a)) e
 
       module _ {k : K} {m : ℕ} (d : o ≡ Ok (k, m)) {u : Result ℕ Fault} (b : Ends img value.read m u) where
         -- what stands under it stops
-        pub passed-stop : {r : Result ℕ Fault} {f : Fault} → u ≡ Err f → r ≡ Err f → Ends img (rows_from O key value n none) first r
+        pub passed-stop : {r : Result ℕ Fault} {f : Fault} → u ≡ Err f → r ≡ Err f → Ends img (rows_from O key value n None) first r
         passed-stop c e = stop (rows-fault O key value prev h (rw d at a) (rw c at b)) e
 
-        pub passed_on : {q rest : ℕ} → u ≡ Ok q → rest ≡ left - 1 → Passed O key value img first n (some k) q rest
+        pub passed_on : {q rest : ℕ} → u ≡ Ok q → rest ≡ left - 1 → Passed O key value img first n (Some k) q rest
         passed_on c e = let g = rw c at b in rw e (record { same = p.same ∙ rows_on O key value prev h (rw d at a) g; within = g.within })
 
 pub ruleset passes_rows = (passed_start, passed-all, passed-unkeyed, passed-stop, passed_on, part-read, part-unread, handed)

@@ -1,7 +1,6 @@
 -- The stores that an image can hold: document 01's limits on a meaning, with no word of reading or writing.
 -- That a list rises, and holds nothing twice, is part of its map.
-use Rattle.std.proofs.Math.Option.{Option, none, some}
-use Rattle.std.specs.Prelude.{List, [], ◌∷◌, ℕ, ◌^◌, ◌≤◌, ◌<◌, length}
+use Rattle.std.specs.Prelude.{List, [], ◌∷◌, ℕ, ◌^◌, ◌≤◌, ◌<◌, length, None, Option, Some}
 use Rattle.std.specs.Int.{w64}
 use Rattle.std.proofs.Common.{SFits}
 use Rattle.wire.specs.declared.time.Time.{Time}
@@ -13,8 +12,8 @@ use Rattle.image.specs.Meaning.{Text, Device, pipe, character, block, socket, Bo
 
 -- what is there fits
 abbrev pub IfGiven : {A : Type 0} → (A → Type 0) → Option A → Type 0
-IfGiven P none = Unit {0}
-IfGiven P (some a) = P a
+IfGiven P None = Unit {0}
+IfGiven P (Some a) = P a
 
 -- "numbers below 2^64"
 abbrev pub FitsInode : ℕ → Type 0

@@ -1,6 +1,5 @@
 -- Document 01: "kind 0 to 6 in the order above", "code 0 tombstone or kind + 1".
-use Rattle.std.specs.Prelude.{ℕ, zero, suc, ◌≤◌, ◌≡◌, refl}
-use Rattle.std.proofs.Math.Option.{Option, none, some}
+use Rattle.std.specs.Prelude.{ℕ, zero, suc, ◌≤◌, ◌≡◌, refl, None, Option, Some}
 use Rattle.std.proofs.Common.{arith}
 use Rattle.wire.specs.Codec.{Codec}
 use Rattle.wire.specs.Number.{coded}
@@ -48,24 +47,24 @@ kind = coded 6 refl kind_at kind_number kind-number number-kind kind-small
 
 -- no kind for a tombstone
 abbrev pub code_at : ℕ → Option Kind
-code_at zero = none
-code_at (suc n) = some (kind_at n)
+code_at zero = None
+code_at (suc n) = Some (kind_at n)
 
 abbrev pub code_number : Option Kind → ℕ
-code_number none = 0
-code_number (some k) = suc (kind_number k)
+code_number None = 0
+code_number (Some k) = suc (kind_number k)
 
 pub code-number : (c : Option Kind) → code_at (code_number c) ≡ c
-code-number none = refl
-code-number (some k) = rw (kind-number k)
+code-number None = refl
+code-number (Some k) = rw (kind-number k)
 
 pub number-code : (n : ℕ) → n ≤ 7 → code_number (code_at n) ≡ n
 number-code zero h = refl
 number-code (suc n) h = rw (number-kind n (omega arith))
 
 pub code-small : (c : Option Kind) → code_number c ≤ 7
-code-small none = omega arith
-code-small (some k) = omega (arith, kind-small k)
+code-small None = omega arith
+code-small (Some k) = omega (arith, kind-small k)
 
 unfoldable pub code : Codec (Option Kind)
 code = coded 7 refl code_at code_number code-number number-code code-small

@@ -1,9 +1,7 @@
 -- Document 01: "letter (d - l p c b s by kind)".
-use Rattle.std.specs.Prelude.{ℕ, cond, leb}
+use Rattle.std.specs.Prelude.{ℕ, cond, leb, None, Option, Some}
 use Rattle.image.specs.Meaning.{Kind, directory, file, symlink, special, pipe, character, block, socket}
 use Rattle.image.specs.KindLayout.{kind_at}
-use Rattle.image.specs.declared.kind.Letter.{Letter}
-use Rattle.image.specs.declared.kind.Letter.TheVariants.{Of, NoKind}
 
 -- the letters are ASCII
 abbrev pub letter : Kind → ℕ
@@ -16,5 +14,5 @@ letter (special block) = 0x62
 letter (special socket) = 0x73
 
 -- of a number from 0 to 6; other numbers are no kind
-abbrev pub letter_of : ℕ → Letter
-letter_of n = cond (leb n 6) (Of (letter (kind_at n))) NoKind
+abbrev pub letter_of : ℕ → Option ℕ
+letter_of n = cond (leb n 6) (Some (letter (kind_at n))) None

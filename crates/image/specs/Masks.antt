@@ -1,6 +1,5 @@
 -- A mask, and the fields that it says are there: the lowest bit is the first field's.
-use Rattle.std.specs.Prelude.{ℕ, ◌+◌, ◌*◌, ◌/◌, ◌%◌, ◌≤◌, ◌≡◌, refl, true, leb}
-use Rattle.std.proofs.Math.Option.{Option, none, some}
+use Rattle.std.specs.Prelude.{ℕ, ◌+◌, ◌*◌, ◌/◌, ◌%◌, ◌≤◌, ◌≡◌, refl, true, leb, None, Option, Some}
 use Rattle.std.proofs.Common.{arith}
 use Rattle.wire.specs.Codec.{Codec}
 use Rattle.wire.specs.Combinators.{seq, restated, tagged, count, opt_fits, optional}
@@ -18,24 +17,24 @@ pub record Masked (A : Type 0) : Type 1 where
   pub from : (m : ℕ) (a : A) → (at m).Fits a → (mask a ≡ m) × Whole a
 
 pub given-fits : {A : Type 0} (c : Codec A) (o : Option A) → IfGiven c.Fits o → opt_fits c o
-given-fits c none h = h
-given-fits c (some a) h = h
+given-fits c None h = h
+given-fits c (Some a) h = h
 
 pub fits-given : {A : Type 0} (c : Codec A) (o : Option A) → opt_fits c o → IfGiven c.Fits o
-fits-given c none h = h
-fits-given c (some a) h = h
+fits-given c None h = h
+fits-given c (Some a) h = h
 
 count_low : {A : Type 0} (o : Option A) (n : ℕ) → count o ≡ (count o + 2 * n) % 2
-count_low none n = omega arith
-count_low (some a) n = omega arith
+count_low None n = omega arith
+count_low (Some a) n = omega arith
 
 count-high : {A : Type 0} (o : Option A) (n : ℕ) → (count o + 2 * n) / 2 ≡ n
-count-high none n = omega arith
-count-high (some a) n = omega arith
+count-high None n = omega arith
+count-high (Some a) n = omega arith
 
 pub count_small : {A : Type 0} (o : Option A) → count o ≤ 1
-count_small none = omega arith
-count_small (some a) = omega arith
+count_small None = omega arith
+count_small (Some a) = omega arith
 
 -- the last field
 abbrev pub last : {A : Type 0} → Codec A → Masked (Option A)

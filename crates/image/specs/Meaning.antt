@@ -1,7 +1,6 @@
 -- What an image means, in document 01's words: "A call gets an image, the store as bytes."
 -- Lists that rise by inode or by name are maps, which hold the proof that they rise.
-use Rattle.std.proofs.Math.Option.{Option}
-use Rattle.std.specs.Prelude.{List, ℕ}
+use Rattle.std.specs.Prelude.{List, ℕ, Option}
 use Rattle.wire.specs.declared.time.Time.{Time}
 use Rattle.wire.specs.Orders.{by_number, by_bytes}
 use Rattle.wire.specs.Maps.{Map}

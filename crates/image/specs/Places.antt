@@ -1,6 +1,5 @@
 -- Where the fields of an image stand: what the readers that pass over a construct promise.
-use Rattle.std.specs.Prelude.{◌≡◌, ◌≤◌, Result, Ok, Err, Some, None, List, [], ◌∷◌, ℕ, zero, suc, ◌-◌, length, drop}
-use Rattle.std.proofs.Math.Option.{Option, none, some}
+use Rattle.std.specs.Prelude.{◌≡◌, ◌≤◌, Result, Ok, Err, Some, None, List, [], ◌∷◌, ℕ, zero, suc, ◌-◌, length, drop, Option}
 use Rattle.std.specs.Prelude.{Option as Maybe}
 use Rattle.wire.specs.declared.fault.Fault.{Fault}
 use Rattle.wire.specs.declared.text.Part.{Part}
@@ -44,7 +43,7 @@ rows_from O key value = chain_read (row O key value) (onto O key value)
 -- the last key of rows that come after the key `prev`
 abbrev pub last_key : {K A : Type 0} → Option K → List (K × A) → Option K
 last_key prev [] = prev
-last_key prev (e ∷ l) = last_key (some e.0) l
+last_key prev (e ∷ l) = last_key (Some e.0) l
 
 abbrev pub last_of : {K A : Type 0} → Option K → Parsed (List (K × A)) → Parsed (Option K)
 last_of prev (fault f) = fault f
@@ -52,15 +51,15 @@ last_of prev (got l r) = got (last_key prev l) r
 
 -- what follows from what was read, if it was
 abbrev pub if_read : {A B : Type 0} → Parsed A → (A → List ℕ → Option B) → Option B
-if_read (fault f) g = none
+if_read (fault f) g = None
 if_read (got a r) g = g a r
 
 -- the place of what stands under the key k, in the n rows at the front of the bytes s, which are the end of an image of `size` bytes
 unfoldable pub place_under : {K A : Type 0} → Order K → Codec K → Codec A → ℕ → K → ℕ → List ℕ → Option ℕ
-place_under O key value size k zero s = none
+place_under O key value size k zero s = None
 place_under O key value size k (suc n) s =
     if_read (key.read s) (λ j r.
-    choose (O.cmp k j) (some (size - length r)) (if_read (value.read r) (λ v q. place_under O key value size k n q)))
+    choose (O.cmp k j) (Some (size - length r)) (if_read (value.read r) (λ v q. place_under O key value size k n q)))
 
 -- the same in the whole list at a place, its count first
 abbrev pub place_in : {K A : Type 0} → Order K → Codec K → Codec A → List ℕ → K → ℕ → Option ℕ
@@ -68,17 +67,17 @@ place_in O key value img k n = if_read (number_read last_count (drop n img)) (λ
 
 -- a place holds a value: it is read there; no place, no value
 abbrev pub Holds : {A : Type 0} → List ℕ → (List ℕ → Parsed A) → Option ℕ → Option A → Type 0
-Holds img p none none = Unit {0}
-Holds img p none (some a) = ⊥
-Holds img p (some n) none = ⊥
-Holds img p (some n) (some a) = (r : List ℕ) × (p (drop n img) ≡ got a r)
+Holds img p None None = Unit {0}
+Holds img p None (Some a) = ⊥
+Holds img p (Some n) None = ⊥
+Holds img p (Some n) (Some a) = (r : List ℕ) × (p (drop n img) ≡ got a r)
 
 -- the name before, if there is one
 abbrev pub name_before : List ℕ → Maybe Part → Option (List ℕ)
-name_before img None = none
-name_before img (Some p) = some (part img p.start p.length)
+name_before img None = None
+name_before img (Some p) = Some (part img p.start p.length)
 
 -- the inode before, if there is one
 abbrev pub inode_before : Maybe ℕ → Option ℕ
-inode_before None = none
-inode_before (Some i) = some i
+inode_before None = None
+inode_before (Some i) = Some i

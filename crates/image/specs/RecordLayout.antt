@@ -1,8 +1,7 @@
 -- Document 01: "Records by rising inode: inode, code 0 tombstone or kind + 1; a mask; the fields present, attribute changes rising by
 -- name. Then directory: 0 or 1 and parent, added, removed, each rising; file: 0 or 1 and size; symlink: 0 or 1 and target; other
 -- four: device."
-use Rattle.std.specs.Prelude.{ℕ, ◌≡◌, refl}
-use Rattle.std.proofs.Math.Option.{Option, none, some}
+use Rattle.std.specs.Prelude.{ℕ, ◌≡◌, refl, None, Option, Some}
 use Rattle.wire.specs.declared.time.Time.{Time}
 use Rattle.wire.specs.Codec.{Codec}
 use Rattle.wire.specs.Combinators.{nothing, seq, ◌then◌, via, restated}
@@ -115,26 +114,26 @@ part-fits (special s device) = refl
 
 -- "code 0 tombstone", which ends there, "or kind + 1"
 abbrev pub CodePart : Option Kind → Type 0
-CodePart none = Unit {0}
-CodePart (some k) = Fields × ChangePart k
+CodePart None = Unit {0}
+CodePart (Some k) = Fields × ChangePart k
 
 abbrev pub code_part : (c : Option Kind) → Codec (CodePart c)
-code_part none = nothing
-code_part (some k) = fields then change_part k
+code_part None = nothing
+code_part (Some k) = fields then change_part k
 
 abbrev pub RecordParts : Type 0
 RecordParts = (c : Option Kind) × CodePart c
 
 abbrev pub record_at : (c : Option Kind) → CodePart c → Record
-record_at none p = tombstone
-record_at (some k) p = delta (record { fields = p.0; change = change_of k p.1 })
+record_at None p = tombstone
+record_at (Some k) p = delta (record { fields = p.0; change = change_of k p.1 })
 
 abbrev pub record_of : RecordParts → Record
 record_of p = record_at p.0 p.1
 
 abbrev pub record_parts : Record → RecordParts
-record_parts tombstone = (none, tt)
-record_parts (delta d) = (some (changed_kind d.change), (d.fields, change_part_of d.change))
+record_parts tombstone = (None, tt)
+record_parts (delta d) = (Some (changed_kind d.change), (d.fields, change_part_of d.change))
 
 pub record-parts : (r : Record) → record_of (record_parts r) ≡ r
 record-parts tombstone = refl
@@ -144,11 +143,11 @@ pub parts-record : (p : RecordParts) → record_parts (record_of p) ≡ p
 parts-record p = go p.0 p.1
   where
     go : (c : Option Kind) (q : CodePart c) → ◌≡◌ {A = RecordParts} (record_parts (record_at c q)) (c, q)
-    go none q = refl
-    go (some directory) q = refl
-    go (some file) q = refl
-    go (some symlink) q = refl
-    go (some (special s)) q = refl
+    go None q = refl
+    go (Some directory) q = refl
+    go (Some file) q = refl
+    go (Some symlink) q = refl
+    go (Some (special s)) q = refl
 
 abbrev pub plain_record : Codec Record
 plain_record = via record_of record_parts record-parts (seq code code_part) (λ p h. parts-record p)

@@ -1,11 +1,10 @@
 -- Document 01: "Order: base, batches, live, next id, staged bytes, staged operations, request." "Batch: id, bytes, operations, reason 1 to
 -- 5, commit time, records; at most 16, ids rising, below next id."
-use Rattle.std.specs.Prelude.{ℕ, suc, ◌≤◌, ◌<◌, ◌≡◌, refl, Bool, true, false, cond, List, [], ◌∷◌, ltb, length}
-use Rattle.std.proofs.Math.Option.{Option, none, some}
+use Rattle.std.specs.Prelude.{ℕ, suc, ◌≤◌, ◌<◌, ◌≡◌, refl, Bool, true, false, cond, List, [], ◌∷◌, ltb, length, None, Option, Some}
 use Rattle.std.proofs.Common.{arith, lt-ltb, ltb-true}
 use Rattle.wire.specs.declared.time.Time.{Time}
-use Rattle.wire.specs.declared.order.Ordering.{Ordering}
-use Rattle.wire.specs.declared.order.Ordering.TheVariants.{Less, Equal, Greater}
+use Rattle.std.specs.declared.cmp.Ordering.{Ordering}
+use Rattle.std.specs.declared.cmp.Ordering.TheVariants.{Less, Equal, Greater}
 use Rattle.wire.specs.Codec.{Codec}
 use Rattle.wire.specs.Combinators.{seq, ◌then◌, via, restated, only, tagged}
 use Rattle.wire.specs.Number.{number_to, between}
@@ -34,20 +33,20 @@ batch_parts b = (b.id, (b.bytes, (b.operations, (b.reason, (b.committed, b.recor
 
 -- the least id after the one before it, if there is one
 abbrev pub least : Option ℕ → ℕ
-least none = 0
-least (some id) = suc id
+least None = 0
+least (Some id) = suc id
 
 -- an id is judged by the one before it
 abbrev pub rises : Option ℕ → ℕ → Bool
 rises = after by_number
 
 pub least-rises : (prev : Option ℕ) (n : ℕ) → least prev ≤ n → rises prev n ≡ true
-least-rises none n h = refl
-least-rises (some p) n h = rw (less-N p n h)
+least-rises None n h = refl
+least-rises (Some p) n h = rw (less-N p n h)
 
 pub rises-least : (prev : Option ℕ) (n : ℕ) → rises prev n ≡ true → least prev ≤ n
-rises-least none n h = omega arith
-rises-least (some p) n h = go (cmp_n p n) (says p n) h
+rises-least None n h = omega arith
+rises-least (Some p) n h = go (cmp_n p n) (says p n) h
   where
     go : (o : Ordering) → Says p n o → is_less o ≡ true → suc p ≤ n
     go Less s e = omega (arith, s)
@@ -75,16 +74,16 @@ unfoldable pub batch_after : Option ℕ → Codec Batch
 batch_after prev = restated (λ b. (least prev ≤ b.id) × FitsBatch b) (plain_batch prev) (batch-fits prev) (fits-batch prev)
 
 abbrev pub id_of : Option ℕ → Batch → Option ℕ
-id_of prev b = some b.id
+id_of prev b = Some b.id
 
 -- "at most 16, ids rising"
 abbrev pub plain_batches : Codec (List Batch)
-plain_batches = tagged (number_to 16 refl) length (chain batch_after id_of none) (λ n l h. h.0)
+plain_batches = tagged (number_to 16 refl) length (chain batch_after id_of None) (λ n l h. h.0)
 
 fits_all : (prev : Option ℕ) (bs : List Batch) → Every (λ b. least prev ≤ b.id) bs → Every FitsBatch bs → RisingIds bs → All batch_after id_of prev bs
 unfolding batch_after
 fits_all prev [] l f r = tt
-fits_all prev (b ∷ bs) l f r = ((l.0, f.0), fits_all (some b.id) bs r.0 f.1 r.1)
+fits_all prev (b ∷ bs) l f r = ((l.0, f.0), fits_all (Some b.id) bs r.0 f.1 r.1)
 
 lower : (m n : ℕ) (bs : List Batch) → m ≤ n → Every (λ b. n < b.id) bs → Every (λ b. m ≤ b.id) bs
 lower m n [] h l = tt
@@ -94,7 +93,7 @@ all-fits : (prev : Option ℕ) (bs : List Batch) → All batch_after id_of prev 
 unfolding batch_after
 all-fits prev [] h = (tt, tt, tt)
 all-fits prev (b ∷ bs) h =
-    let i = all-fits (some b.id) bs h.1 in
+    let i = all-fits (Some b.id) bs h.1 in
     ((h.0.0, lower (least prev) b.id bs h.0.0 i.0), (h.0.1, i.1), (i.0, i.2))
 
 none-least : (bs : List Batch) → Every (λ b. 0 ≤ b.id) bs
@@ -102,10 +101,10 @@ none-least [] = tt
 none-least (b ∷ bs) = (omega arith, none-least bs)
 
 pub batches-fit : (bs : List Batch) → FitsBatches bs → plain_batches.Fits bs
-batches-fit bs h = (h.count, (refl, fits_all none bs (none-least bs) h.each h.rising))
+batches-fit bs h = (h.count, (refl, fits_all None bs (none-least bs) h.each h.rising))
 
 pub fit-batches : (bs : List Batch) → plain_batches.Fits bs → FitsBatches bs
-fit-batches bs h = let a = all-fits none bs h.1.1 in record { count = h.0; each = a.1; rising = a.2 }
+fit-batches bs h = let a = all-fits None bs h.1.1 in record { count = h.0; each = a.1; rising = a.2 }
 
 unfoldable pub batches : Codec (List Batch)
 batches = restated FitsBatches plain_batches batches-fit fit-batches

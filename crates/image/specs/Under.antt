@@ -1,6 +1,5 @@
 -- The four lists by name: what stands under each name.
-use Rattle.std.proofs.Math.Option.{Option}
-use Rattle.std.specs.Prelude.{ℕ}
+use Rattle.std.specs.Prelude.{ℕ, Option}
 use Rattle.wire.specs.Codec.{Codec}
 use Rattle.wire.specs.Combinators.{nothing}
 use Rattle.image.specs.Meaning.{Text}

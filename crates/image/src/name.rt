@@ -1,6 +1,5 @@
 // Lists by name: entries, removed names, attributes, attribute changes.
 ghost use Rattle.std.specs.Prelude.{◌≤◌, refl, length};
-ghost use Rattle.std.proofs.Math.Option.{none};
 ghost use Rattle.wire.specs.Combinators.{only};
 ghost use Rattle.wire.specs.Orders.{by_bytes};
 ghost use Rattle.wire.specs.Lists.{after, rising, last_count};
@@ -9,10 +8,11 @@ ghost use Rattle.image.specs.FieldLayout.{name as nameText};
 ghost use Rattle.image.specs.Under.{under};
 ghost use Rattle.image.specs.Places.{Ends, name_before, rows_from};
 
+use std::cmp::Ordering;
 use crate::field::{LAST_WORD, pass_maybe_text, pass_number, pass_text};
 use wire::fault::Fault;
 use wire::number::read_number;
-use wire::order::{Ordering, compare_part};
+use wire::order::compare_part;
 use wire::part::part;
 use wire::text::{Part, read_text};
 
@@ -66,7 +66,7 @@ pub fn pass_names(img: &[u8], at: usize, what: Under) -> Result<usize, Fault>
 #[tactic(auto, using(crate::proofs::Passing::passes_rows))]
 fn names_from(img: &[u8], first: usize, count: u64, what: Under) -> Result<usize, Fault>
     requires { first ≤ length img.now }
-    ensures { Ends img.now (rows_from by_bytes nameText (under what) count none) first result }
+    ensures { Ends img.now (rows_from by_bytes nameText (under what) count None) first result }
 {
     let mut here = first;
     let mut before: Option<Part> = None;

@@ -2,8 +2,7 @@
 -- Assumes nothing.
 use mathlib.Core.Path.{◌≡◌, refl, sym, ap, ◌∙◌}
 use mathlib.Core.List.{List}
-use mathlib.Core.Option.{Option, none, some}
-use Rattle.std.specs.Prelude.{Result, Ok, Err}
+use Rattle.std.specs.Prelude.{Result, Ok, Err, None, Option, Some}
 use Prim.Native.Nat.{ℕ, ◌/◌, ◌%◌, ◌≤◌}
 use native.Mathlib.Omega.{arith}
 use lib.ListN.{length, drop, length-append, length-drop}
@@ -25,21 +24,18 @@ use Rattle.image.specs.FieldLayout.{word}
 use Rattle.image.specs.RecordLayout.{later_flags, flags, fields, fields_of}
 use Rattle.image.specs.Places.{Ends, maybe_read}
 use Rattle.image.proofs.Passing.{ends-got, ends-fault}
-use Rattle.nodes.specs.declared.option.OptionPart.{OptionPart}
-use Rattle.nodes.specs.declared.option.OptionPart.TheVariants as P
 use Rattle.nodes.specs.declared.attr.Words.{Words}
-use Rattle.nodes.specs.Options.{word_of}
 use Rattle.nodes.specs.Attrs.{ReadsChanges, later_read}
 use Rattle.nodes.specs.Listed.{list_at, by_name, ReadsNames, part_from}
 use Rattle.nodes.proofs.OneForm.{by_name-one}
 
 -- a field that is there, or not
 module _ {A : Type 0} (p : List ℕ → Parsed A) {img : List ℕ} {bit at : ℕ} where
-  pub reads_none : bit ≡ 0 → at ≤ length img → Reads img (opt-read p bit) at (Ok (none, at))
+  pub reads_none : bit ≡ 0 → at ≤ length img → Reads img (opt-read p bit) at (Ok (None, at))
   unfolding opt-read
   reads_none e w = rw e (read-end w)
 
-  pub reads-some : {o : Result (A × ℕ) Fault} {a : A} {m : ℕ} → (bit ≡ 0 → ⊥) → bit ≤ 1 → Reads img p at o → o ≡ Ok (a, m) → Reads img (opt-read p bit) at (Ok (some a, m))
+  pub reads-some : {o : Result (A × ℕ) Fault} {a : A} {m : ℕ} → (bit ≡ 0 → ⊥) → bit ≤ 1 → Reads img p at o → o ≡ Ok (a, m) → Reads img (opt-read p bit) at (Ok (Some a, m))
   unfolding opt-read
   reads-some n l h d = let e : bit ≡ 1 = omega arith in let g = rw d at h in rw e (read-then _ g (read-end g.within))
 
@@ -117,14 +113,14 @@ module _ {img : List ℕ} (u : Under) {n : ℕ} where
 -- ---- attribute changes
 
 module _ {img : List ℕ} {at bit : ℕ} where
-  pub no-changes : bit ≡ 0 → at ≤ length img → ReadsChanges img at bit (Ok (P.None, at))
+  pub no-changes : bit ≡ 0 → at ≤ length img → ReadsChanges img at bit (Ok (None, at))
   no-changes e w = record { reads = reads_none _ e w; listed = tt }
 
   module _ {o : Result (Part × ℕ) Fault} (n : bit ≡ 0 → ⊥) (l : bit ≤ 1) (h : ReadsNames img Change at o) where
-    pub some-changes : {p : Part} {m : ℕ} → o ≡ Ok (p, m) → ReadsChanges img at bit (Ok (P.Some p, m))
+    pub some-changes : {p : Part} {m : ℕ} → o ≡ Ok (p, m) → ReadsChanges img at bit (Ok (Some p, m))
     some-changes d = let g = rw d at h in record { reads = reads-some _ n l g.reads refl; listed = g.listed }
 
-    pub changes-stop : {r : Result (OptionPart × ℕ) Fault} {f : Fault} → o ≡ Err f → r ≡ Err f → ReadsChanges img at bit r
+    pub changes-stop : {r : Result (Option Part × ℕ) Fault} {f : Fault} → o ≡ Err f → r ≡ Err f → ReadsChanges img at bit r
     changes-stop d e = let g = rw d at h in rw e (record { reads = some-stops _ n l g.reads refl; listed = tt })
 
 pub ruleset changes_rules = (no-changes, some-changes, changes-stop, handed)
@@ -135,9 +131,9 @@ abbrev bit : ℕ → List ℕ → Parsed (Option ℕ)
 bit b = opt-read (number_read 4294967295) (b % 2)
 
 module _ {img : List ℕ} {m at c0 c1 c2 c3 c4 : ℕ} {r : Result (Fields × ℕ) Fault} where
-  pub reads-fields : (w : Words) → Reads img (number_read 511) at (Ok (m, c0)) → Reads img (bit m) c0 (Ok (word_of w.mode, c1))
-      → Reads img (bit (m / 2)) c1 (Ok (word_of w.uid, c2)) → Reads img (bit (m / 2 / 2)) c2 (Ok (word_of w.gid, c3))
-      → Reads img (bit (m / 2 / 2 / 2)) c3 (Ok (word_of w.nlink, c4)) → Reads img (later_read (m / 2 / 2 / 2 / 2) w) c4 r → Reads img fields.read at r
+  pub reads-fields : (w : Words) → Reads img (number_read 511) at (Ok (m, c0)) → Reads img (bit m) c0 (Ok (w.mode, c1))
+      → Reads img (bit (m / 2)) c1 (Ok (w.uid, c2)) → Reads img (bit (m / 2 / 2)) c2 (Ok (w.gid, c3))
+      → Reads img (bit (m / 2 / 2 / 2)) c3 (Ok (w.nlink, c4)) → Reads img (later_read (m / 2 / 2 / 2 / 2) w) c4 r → Reads img fields.read at r
   unfolding fields
   reads-fields w h x y z n l =
       let k1 = flag word later_flags in
@@ -145,7 +141,7 @@ module _ {img : List ℕ} {m at c0 c1 c2 c3 c4 : ℕ} {r : Result (Fields × ℕ
       let k3 = flag word k2 in
       reads-tag (number_read 511) (λ m r. (flags.at m).read r) (λ p r. got (fields_of p) r) h
       (reads_first (bit m) (k3.at (m / 2)).read (λ p r. got (fields_of p) r) x
-      (reads_first (bit (m / 2)) (k2.at (m / 2 / 2)).read (λ p r. got (fields_of (word_of w.mode, p)) r) y
-      (reads_first (bit (m / 2 / 2)) (k1.at (m / 2 / 2 / 2)).read (λ p r. got (fields_of (word_of w.mode, (word_of w.uid, p))) r) z
+      (reads_first (bit (m / 2)) (k2.at (m / 2 / 2)).read (λ p r. got (fields_of (w.mode, p)) r) y
+      (reads_first (bit (m / 2 / 2)) (k1.at (m / 2 / 2 / 2)).read (λ p r. got (fields_of (w.mode, (w.uid, p))) r) z
       (reads_first (bit (m / 2 / 2 / 2)) (later_flags.at (m / 2 / 2 / 2 / 2)).read
-      (λ p r. got (fields_of (word_of w.mode, (word_of w.uid, (word_of w.gid, p)))) r) n l))))
+      (λ p r. got (fields_of (w.mode, (w.uid, (w.gid, p)))) r) n l))))

@@ -1,6 +1,5 @@
 -- Lists that stay in the image. Document 01: "`HashMap`, `BTreeMap`, `Vec` become sorted lists in the image."
-use Rattle.std.specs.Prelude.{◌≡◌, refl, List, ℕ, ◌+◌, ◌-◌, ◌≤◌, length, drop, Result, IfOk}
-use Rattle.std.proofs.Math.Option.{Option, none, some}
+use Rattle.std.specs.Prelude.{◌≡◌, refl, List, ℕ, ◌+◌, ◌-◌, ◌≤◌, length, drop, Result, IfOk, None, Option, Some}
 use Rattle.wire.specs.declared.fault.Fault.{Fault}
 use Rattle.wire.specs.Parse.{Parsed, fault, got}
 use Rattle.wire.specs.Codec.{Codec}
@@ -12,8 +11,6 @@ use Rattle.image.specs.declared.name.Under.{Under}
 use Rattle.image.specs.FieldLayout.{name}
 use Rattle.image.specs.Under.{UnderName, under}
 use Rattle.wire.specs.declared.text.Part.{Part}
-use Rattle.nodes.specs.declared.option.OptionPart.{OptionPart}
-use Rattle.nodes.specs.declared.option.OptionPart.TheVariants as P
 
 abbrev pub read_or : {A : Type 0} → A → Parsed A → A
 read_or z (fault f) = z
@@ -28,9 +25,9 @@ module _ (img : List ℕ) (u : Under) where
   abbrev pub list_at : Part → Map by_bytes (UnderName u)
   list_at p = read_or (empty by_bytes) ((by_name u).read (drop p.start img))
 
-  abbrev pub list_of : OptionPart → Option (Map by_bytes (UnderName u))
-  list_of (P.Some p) = some (list_at p)
-  list_of P.None = none
+  abbrev pub list_of : Option Part → Option (Map by_bytes (UnderName u))
+  list_of (Some p) = Some (list_at p)
+  list_of None = None
 
   -- there is a list at the place, and it ends at `end`
   pub record Listed (p : Part) (end : ℕ) : Type 0 where
@@ -38,9 +35,9 @@ module _ (img : List ℕ) (u : Under) where
     pub ends : p.start + p.length ≡ end
     pub inside : end ≤ length img
 
-  abbrev pub ListedIf : OptionPart → ℕ → Type 0
-  ListedIf (P.Some p) end = Listed p end
-  ListedIf P.None end = Unit {0}
+  abbrev pub ListedIf : Option Part → ℕ → Type 0
+  ListedIf (Some p) end = Listed p end
+  ListedIf None end = Unit {0}
 
 -- the part from one place to another
 abbrev pub part_from : ℕ → ℕ → Part

@@ -2,8 +2,9 @@
 ghost use Rattle.std.specs.Prelude.{◌≤◌, ◌≡◌, length};
 ghost use Rattle.nodes.specs.Attrs.{attr_delta, ReadsAttr, ReadsLater, ReadsChanges};
 
-use crate::option::{OptionPart, OptionTime, OptionU32, read_time_if, read_u32_if};
-use crate::part::read_names;
+use wire::time::Time;
+use crate::option::{read_time_if, read_u32_if};
+use crate::part::{Part, read_names};
 use image::name::Under;
 use wire::fault::Fault;
 use wire::number::read_number;
@@ -11,15 +12,15 @@ use wire::number::read_number;
 // Each field is there, or not. The attribute changes are a list in the image.
 #[derive(Clone, Copy)]
 pub struct AttrDelta {
-    pub mode: OptionU32,
-    pub uid: OptionU32,
-    pub gid: OptionU32,
-    pub nlink: OptionU32,
-    pub atime: OptionTime,
-    pub mtime: OptionTime,
-    pub ctime: OptionTime,
-    pub created_at: OptionTime,
-    pub xattrs: OptionPart,
+    pub mode: Option<u32>,
+    pub uid: Option<u32>,
+    pub gid: Option<u32>,
+    pub nlink: Option<u32>,
+    pub atime: Option<Time>,
+    pub mtime: Option<Time>,
+    pub ctime: Option<Time>,
+    pub created_at: Option<Time>,
+    pub xattrs: Option<Part>,
 }
 
 // The mask at `at` and the fields that it says are there, and the place after them.
@@ -44,10 +45,10 @@ pub fn read_attr_delta(img: &[u8], at: usize) -> Result<(AttrDelta, usize), Faul
 // The first four fields.
 #[derive(Clone, Copy)]
 pub struct Words {
-    pub mode: OptionU32,
-    pub uid: OptionU32,
-    pub gid: OptionU32,
-    pub nlink: OptionU32,
+    pub mode: Option<u32>,
+    pub uid: Option<u32>,
+    pub gid: Option<u32>,
+    pub nlink: Option<u32>,
 }
 
 // The times and the attribute changes that the upper bits of a mask say are there, after the first four fields.
@@ -72,14 +73,14 @@ fn read_later(img: &[u8], at: usize, bits: u64, words: Words) -> Result<(AttrDel
 // The four times.
 #[derive(Clone, Copy)]
 pub struct Times {
-    pub atime: OptionTime,
-    pub mtime: OptionTime,
-    pub ctime: OptionTime,
-    pub created_at: OptionTime,
+    pub atime: Option<Time>,
+    pub mtime: Option<Time>,
+    pub ctime: Option<Time>,
+    pub created_at: Option<Time>,
 }
 
 // The fields, put together.
-fn attr_delta_of(words: Words, times: Times, xattrs: OptionPart) -> AttrDelta
+fn attr_delta_of(words: Words, times: Times, xattrs: Option<Part>) -> AttrDelta
     ensures { result ≡ attr_delta words times xattrs }
 {
     let mode = words.mode;
@@ -105,13 +106,13 @@ fn attr_delta_of(words: Words, times: Times, xattrs: OptionPart) -> AttrDelta
 
 // Attribute changes that are there if the bit is 1, and the place after them.
 #[tactic(auto, using(crate::proofs::Values::changes_rules))]
-fn read_changes_if(img: &[u8], at: usize, bit: u64) -> Result<(OptionPart, usize), Fault>
+fn read_changes_if(img: &[u8], at: usize, bit: u64) -> Result<(Option<Part>, usize), Fault>
     requires { (bit ≤ 1) × (at ≤ length img.now) }
     ensures { ReadsChanges img.now at bit result }
 {
     if bit == 0 {
-        return Ok((OptionPart::None, at));
+        return Ok((None, at));
     }
     let (list, next) = read_names(img, at, Under::Change)?;
-    Ok((OptionPart::Some(list), next))
+    Ok((Some(list), next))
 }

@@ -3,10 +3,9 @@
 use mathlib.Core.Path.{◌≡◌, refl, sym, ◌∙◌}
 use mathlib.Core.Bool.{Bool, true, false}
 use mathlib.Core.List.{List}
-use mathlib.Core.Option.{Option, none, some}
 use Prim.Native.Nat.{ℕ, zero, suc, ◌-◌, ◌≤◌, ◌<◌}
 use native.Mathlib.Omega.{arith}
-use Rattle.std.specs.Prelude.{Result, Ok, Err, Some, None}
+use Rattle.std.specs.Prelude.{Result, Ok, Err, Some, None, Option}
 use Rattle.std.specs.Prelude.{Option as Maybe}
 use Rattle.std.specs.Option.{option_or}
 use Rattle.std.specs.Bool.{then_some}
@@ -15,8 +14,8 @@ use lib.ListN.{length, drop, length-drop}
 use borrow.Author.Tests.{eqb-true, eqb-false}
 use Rattle.wire.specs.declared.fault.Fault.{Fault}
 use Rattle.wire.specs.declared.fault.Fault.TheVariants.{Malformed}
-use Rattle.wire.specs.declared.order.Ordering.{Ordering}
-use Rattle.wire.specs.declared.order.Ordering.TheVariants.{Less, Equal, Greater}
+use Rattle.std.specs.declared.cmp.Ordering.{Ordering}
+use Rattle.std.specs.declared.cmp.Ordering.TheVariants.{Less, Equal, Greater}
 use Rattle.wire.specs.Parse.{Parsed, fault, got, bind, check, never-got}
 use Rattle.wire.specs.Codec.{Codec}
 use Rattle.wire.specs.Combinators.{only}
@@ -27,7 +26,7 @@ use Rattle.wire.specs.Lists.{after, last_count}
 use Rattle.wire.specs.Reading.{Reads}
 use Rattle.image.specs.FieldLayout.{inode}
 use Rattle.passes.specs.declared.inode.Held.{Held}
-use Rattle.passes.specs.Held.{held, place_of, Finds, FindsRows}
+use Rattle.passes.specs.Held.{held, Finds, FindsRows}
 use Rattle.image.specs.Places.{Ends, place_under}
 use Rattle.wire.proofs.Readers.{handed}
 use Rattle.image.proofs.OneForm.{inode-one}
@@ -35,8 +34,8 @@ use Rattle.image.proofs.Passing.{ends-got, ends-list, ends-unlisted, Passed, pas
 use Rattle.passes.proofs.OneForm.{held-one}
 
 abbrev first : Option ℕ → Option ℕ → Option ℕ
-first none o = o
-first (some p) o = some p
+first None o = o
+first (Some p) o = Some p
 
 place-left : (img : List ℕ) (m : ℕ) → m ≤ length img → length img - length (drop m img) ≡ m
 place-left img m h = omega (arith, length-drop m img)
@@ -58,27 +57,27 @@ module _ {A : Type 0} (value : Codec A) (img : List ℕ) (sought : ℕ) where
 
   -- one row more
   place-step : (n : ℕ) (s : List ℕ) {r q : List ℕ} {j : ℕ} {v : A} → 0 < n → number_read edge s ≡ got j r → value.read r ≡ got v q
-      → placed n s ≡ choose (cmp_n sought j) (some (length img - length r)) (placed (n - 1) q)
+      → placed n s ≡ choose (cmp_n sought j) (Some (length img - length r)) (placed (n - 1) q)
   unfolding place_under
   place-step zero s h e d = absurd (omega arith)
   place-step (suc n) s h e d = let z : suc n - 1 ≡ n = omega arith in rw (e, d, z)
 
   -- the place found, or the one still to be found
   pub record Seeking (start n : ℕ) (place : Maybe ℕ) (here left : ℕ) : Type 0 where
-    pub same : first (place_of place) (placed left (drop here img)) ≡ placed n (drop start img)
+    pub same : first place (placed left (drop here img)) ≡ placed n (drop start img)
 
   pub seeking-start : {start n left : ℕ} → left ≡ n → Seeking start n None start left
   seeking-start e = rw e (record { same = refl })
 
   chosen : (place : Maybe ℕ) (m : ℕ) (b : Bool) (j : ℕ) (rest : Option ℕ) → eqb j sought ≡ b
-      → first (place_of place) (choose (cmp_n sought j) (some m) rest) ≡ first (place_of (option_or place (then_some b m))) rest
+      → first place (choose (cmp_n sought j) (Some m) rest) ≡ first (option_or place (then_some b m)) rest
   chosen (Some p) m b j rest e = refl
   chosen None m true j rest e =
       let z : j ≡ sought = eqb-true j sought e in
       rw (equal-N sought j (omega arith) (omega arith))
   chosen None m false j rest e = go (cmp_n sought j) (says sought j)
     where
-      go : (o : Ordering) → Says sought j o → choose o (some m) rest ≡ rest
+      go : (o : Ordering) → Says sought j o → choose o (Some m) rest ≡ rest
       go Less k = refl
       go Equal k = absurd (eqb-false j sought e (sym k))
       go Greater k = refl
@@ -95,16 +94,16 @@ module _ {A : Type 0} (value : Codec A) (img : List ℕ) (sought : ℕ) where
               ∙ w.same;
         })
 
-    none_left : (k : ℕ) → k ≤ 0 → first (place_of place) (placed k (drop here img)) ≡ place_of place
+    none_left : (k : ℕ) → k ≤ 0 → first place (placed k (drop here img)) ≡ place
     unfolding place_under
     none_left zero h = go place
       where
-        go : (p : Maybe ℕ) → first (place_of p) none ≡ place_of p
+        go : (p : Maybe ℕ) → first p None ≡ p
         go (Some x) = refl
         go None = refl
     none_left (suc k) h = absurd (omega arith)
 
-    pub seeking-end : left ≤ 0 → place_of place ≡ placed n (drop start img)
+    pub seeking-end : left ≤ 0 → place ≡ placed n (drop start img)
     seeking-end h = sym (none_left left h) ∙ w.same
 
 -- ---- a list, and its rows

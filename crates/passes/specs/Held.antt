@@ -1,6 +1,5 @@
 -- The two sorts of lists by inode, and what finding an inode in one answers.
-use Rattle.std.specs.Prelude.{◌≡◌, refl, List, ℕ, length, drop, Result, Ok, Err, Some, None}
-use Rattle.std.proofs.Math.Option.{Option, none, some}
+use Rattle.std.specs.Prelude.{◌≡◌, refl, List, ℕ, length, drop, Result, Ok, Err, Some, None, Option}
 use Rattle.std.specs.Prelude.{Option as Maybe}
 use Rattle.wire.specs.declared.fault.Fault.{Fault}
 use Rattle.wire.specs.Codec.{Codec}
@@ -24,8 +23,8 @@ held H.Node = node
 held H.Record = layer_record
 
 abbrev pub place_of : Maybe ℕ → Option ℕ
-place_of None = none
-place_of (Some p) = some p
+None = None
+(Some p) = Some p
 
 -- where the list ends
 abbrev pub end_of : Result (Maybe ℕ × ℕ) Fault → Result ℕ Fault
@@ -34,7 +33,7 @@ end_of (Err f) = Err f
 
 -- if the list was read to its end, the place found is this one
 abbrev pub Found : Result (Maybe ℕ × ℕ) Fault → Option ℕ → Type 0
-Found (Ok r) o = place_of r.0 ≡ o
+Found (Ok r) o = r.0 ≡ o
 Found (Err f) o = Unit {0}
 
 -- a list by inode is passed, and the place of what stands under one inode is found on the way
@@ -44,5 +43,5 @@ pub record Finds (img : List ℕ) (h : Held) (sought at : ℕ) (result : Result 
 
 -- the same of n rows from `first` on
 pub record FindsRows (img : List ℕ) (h : Held) (sought first n : ℕ) (result : Result (Maybe ℕ × ℕ) Fault) : Type 0 where
-  pub ends : Ends img (rows_from by_number inodeCodec (held h) n none) first (end_of result)
+  pub ends : Ends img (rows_from by_number inodeCodec (held h) n None) first (end_of result)
   pub found : Found result (place_under by_number inodeCodec (held h) (length img) sought n (drop first img))

@@ -2,8 +2,7 @@
 -- Assumes nothing.
 use mathlib.Core.Path.{◌≡◌, refl, sym, ap, ◌∙◌, subst}
 use mathlib.Core.List.{List, [], ◌++◌, append_assoc, append-nil}
-use mathlib.Core.Option.{Option, none}
-use Rattle.std.specs.Prelude.{Result, Ok, Err, Some, None}
+use Rattle.std.specs.Prelude.{Result, Ok, Err, Some, None, Option}
 use Rattle.std.specs.Prelude.{Option as Maybe}
 use Prim.Native.Nat.{ℕ, zero, suc, ◌+◌, ◌-◌, ◌≤◌, ◌<◌}
 use native.Mathlib.Omega.{arith}
@@ -20,7 +19,7 @@ use Rattle.image.specs.FieldLayout.{inode}
 use Rattle.image.specs.RecordLayout.{records}
 use Rattle.image.specs.StoreLayout.{BatchRest, batch_rest}
 use Rattle.image.specs.Places.{Ends, inode_before, rows_from}
-use Rattle.passes.specs.Held.{place_of, Finds}
+use Rattle.passes.specs.Held.{Finds}
 use Rattle.survey.specs.Gathering.{list_if, deltas_of, head_rest, batch_head, record_place, batch_places}
 use Rattle.survey.specs.Gathering.{Bare, Pushed, Gathers, GathersQueue}
 use Rattle.passes.specs.declared.inode.Held.TheVariants as H
@@ -109,7 +108,7 @@ module _ {img : List ℕ} {sought first n here left : ℕ} {base last : Maybe �
         pub going-stop : {y : Fault} {r : Result (Batches × ℕ) Fault} → v ≡ Err y → r ≡ Err y → Gathers img sought first n base r
         going-stop z e = let g = rw z at f in rw e (record { ends = passed-stop w.rows h a d (rest-ends b c g.ends) refl refl; gathered = tt })
 
-        pub going_on : {place : Maybe ℕ} {q left2 : ℕ} {new : InodeLayerStack} → v ≡ Ok (place, q) → Pushed now (place_of place) new → left2 ≡ left - 1
+        pub going_on : {place : Maybe ℕ} {q left2 : ℕ} {new : InodeLayerStack} → v ≡ Ok (place, q) → Pushed now place new → left2 ≡ left - 1
             → Going img sought first n base (Some j) q left2 new
         going_on {place} z p e =
             let g = rw z at f in
@@ -118,7 +117,7 @@ module _ {img : List ℕ} {sought first n here left : ℕ} {base last : Maybe �
             let head : Ends img batch_head.read here (Ok k) = ends-then head_rest.read (λ a b. (a, b)) key refl (rw c at b) in
             rw e (record {
               rows = passed_on w.rows h a d (rest-ends b c g.ends) refl refl;
-              places = rw (p.places, append_assoc, ← (places-step sought left (place_of place) h head g.ends g.found)) w.places;
+              places = rw (p.places, append_assoc, ← (places-step sought left place h head g.ends g.found)) w.places;
               few = omega (arith, p.few, w.few);
               wide = p.wide;
               base_kept = p.base ∙ w.base_kept;
@@ -128,19 +127,19 @@ module _ {img : List ℕ} {sought first n here left : ℕ} {base last : Maybe �
 
 module _ {img : List ℕ} {sought at : ℕ} {base : Maybe ℕ} {o : Result (ℕ × ℕ) Fault} (h : Reads img (number_read 16) at o) where
   pub queue-stop : {f : Fault} {r : Result (Batches × ℕ) Fault} → o ≡ Err f → r ≡ Err f → GathersQueue img sought at base r
-  queue-stop d e = rw e (record { ends = ends-unchosen (λ n s. rows_from by_number inode batch_rest n none s) h d refl; gathered = tt })
+  queue-stop d e = rw e (record { ends = ends-unchosen (λ n s. rows_from by_number inode batch_rest n None s) h d refl; gathered = tt })
 
   pub queue-all : {n first : ℕ} {r : Result (Batches × ℕ) Fault} → o ≡ Ok (n, first) → Gathers img sought first n base r → GathersQueue img sought at base r
   queue-all {n} {first} {r} d g = go r g
     where
       go : (r : Result (Batches × ℕ) Fault) → Gathers img sought first n base r → GathersQueue img sought at base r
-      go (Err f) g = record { ends = ends-chosen (λ n s. rows_from by_number inode batch_rest n none s) h d g.ends; gathered = tt }
+      go (Err f) g = record { ends = ends-chosen (λ n s. rows_from by_number inode batch_rest n None s) h d g.ends; gathered = tt }
       go (Ok x) g =
           let c = rw d at h in
           let b = g.gathered in
           let l : n ≤ 16 = number-most h d in
           record {
-            ends = ends-chosen (λ n s. rows_from by_number inode batch_rest n none s) h d g.ends;
+            ends = ends-chosen (λ n s. rows_from by_number inode batch_rest n None s) h d g.ends;
             gathered = record {
               last = rw (c.same) b.last;
               places = rw (c.same) b.places;

@@ -1,6 +1,6 @@
 -- What the gatherers read has one form.
 -- Assumes nothing.
-use mathlib.Core.Option.{Option}
+use Rattle.std.specs.Prelude.{Option}
 use mathlib.Core.Path.{refl}
 use Prim.Native.Nat.{ℕ}
 use Rattle.wire.specs.Codec.{OneForm}

@@ -3,7 +3,6 @@
 use mathlib.Core.Path.{◌≡◌, refl, sym, ap, ◌∙◌}
 use mathlib.Core.Bool.{Bool, true, false, cond}
 use mathlib.Core.List.{List, [], ◌∷◌}
-use mathlib.Core.Option.{Option, none, some}
 use Prim.Native.Nat.{ℕ, zero, suc, ◌≤◌, ◌<◌}
 use native.Mathlib.Omega.{arith}
 use lib.Dec.{ltb}
@@ -12,9 +11,9 @@ use lib.Seq.{drop-cons}
 use borrow.Author.Tests.{lt-ltb, le-ltb, ltb-false}
 use Rattle.wire.specs.declared.fault.Fault.{Fault}
 use Rattle.wire.specs.declared.fault.Fault.TheVariants.{Malformed}
-use Rattle.std.specs.Prelude.{Result, Ok, Err, Some, None}
+use Rattle.std.specs.Prelude.{Result, Ok, Err, Some, None, Option}
 use Rattle.std.specs.Prelude.{Option as Maybe}
-use Rattle.wire.specs.declared.order.Ordering.TheVariants.{Less, Equal, Greater}
+use Rattle.std.specs.declared.cmp.Ordering.TheVariants.{Less, Equal, Greater}
 use Rattle.wire.specs.Parse.{Parsed, fault, got, bind, check}
 use Rattle.wire.specs.Codec.{Codec, decode}
 use Rattle.wire.specs.Combinators.{◌then◌, seq, only}
@@ -29,7 +28,7 @@ use Rattle.image.specs.RecordLayout.{records}
 use Rattle.image.specs.StoreLayout.{BatchRest, batch_rest, batch_of, batch_after, id_of, batches, ids_below, next_id, store_of, store}
 use Rattle.image.specs.Places.{passed, Ends, rows_from, last_key, last_of, inode_before}
 use Rattle.survey.specs.Gathering.{queue_rows, Pushed, GathersQueue}
-use Rattle.passes.specs.Held.{place_of, Finds}
+use Rattle.passes.specs.Held.{Finds}
 use Rattle.survey.specs.Survey.{tail_after, Surveyed, SurveyOf}
 use Rattle.survey.specs.Verdict.{verdict_of, Judges}
 use Rattle.survey.specs.declared.store.Refusal.{Refusal}
@@ -69,12 +68,12 @@ chain-batches : (n : ℕ) (prev : Option ℕ) (s : List ℕ) → chain_read batc
 unfolding batch_after batches_of
 chain-batches zero prev s = refl
 chain-batches (suc n) prev s =
-    first_made ((row by_number inode batch_rest prev).read s) (λ i r. chain_read batch_after id_of n (some i) r) (λ i r. rows_from by_number inode batch_rest n (some i) r)
-    (λ i r. chain-batches n (some i) r)
+    first_made ((row by_number inode batch_rest prev).read s) (λ i r. chain_read batch_after id_of n (Some i) r) (λ i r. rows_from by_number inode batch_rest n (Some i) r)
+    (λ i r. chain-batches n (Some i) r)
 
-counted-made : (o : Parsed ℕ) → bind o (λ n r. chain_read batch_after id_of n none r) ≡ batches_read (bind o (λ n r. rows_from by_number inode batch_rest n none r))
+counted-made : (o : Parsed ℕ) → bind o (λ n r. chain_read batch_after id_of n None r) ≡ batches_read (bind o (λ n r. rows_from by_number inode batch_rest n None r))
 counted-made (fault f) = refl
-counted-made (got n r) = chain-batches n none r
+counted-made (got n r) = chain-batches n None r
 
 pub batches-rows : (s : List ℕ) → batches.read s ≡ batches_read (queue_rows.read s)
 unfolding batches
@@ -86,11 +85,11 @@ is_below : (m k : ℕ) → cmp_n m k ≡ Less → m < k
 is_below m k e = rw e at (says m k)
 
 -- the last key is above those before it
-under_last : (m k : ℕ) (l : List (ℕ × BatchRest)) → m < k → Under by_number m l → (j : ℕ) → last_key (some k) l ≡ some j → m < j
+under_last : (m k : ℕ) (l : List (ℕ × BatchRest)) → m < k → Under by_number m l → (j : ℕ) → last_key (Some k) l ≡ Some j → m < j
 under_last m k [] h u j e = let z : k ≡ j = cc in omega arith
 under_last m k (p ∷ l) h u j e = under_last m p.0 l (is_below m p.0 u.0) u.1 j e
 
-last_some : (k : ℕ) (l : List (ℕ × BatchRest)) → (j : ℕ) × (last_key (some k) l ≡ some j)
+last_some : (k : ℕ) (l : List (ℕ × BatchRest)) → (j : ℕ) × (last_key (Some k) l ≡ Some j)
 last_some k [] = (k, refl)
 last_some k (p ∷ l) = last_some p.0 l
 
@@ -103,7 +102,7 @@ less-test a n = go (ltb a n) refl (ltb n a)
     go false e false = refl
 
 above-last : (p : ℕ × BatchRest) (l : List (ℕ × BatchRest)) (n : ℕ) → Under by_number p.0 l → Rising by_number l
-    → ids_below (batches_of (p ∷ l)) n ≡ after by_number (last_key (some p.0) l) n
+    → ids_below (batches_of (p ∷ l)) n ≡ after by_number (last_key (Some p.0) l) n
 unfolding batches_of
 above-last p [] n u r = go (ltb p.0 n) refl
   where
@@ -112,16 +111,16 @@ above-last p [] n u r = go (ltb p.0 n) refl
     go false e = rw (less-test, e)
 above-last p (q ∷ l) n u r = go (ltb p.0 n) refl (above-last q l n r.0 r.1) (last_some q.0 l)
   where
-    go : (t : Bool) → ltb p.0 n ≡ t → ids_below (batches_of (q ∷ l)) n ≡ after by_number (last_key (some q.0) l) n
-        → (j : ℕ) × (last_key (some q.0) l ≡ some j)
-        → cond (ltb p.0 n) (ids_below (batches_of (q ∷ l)) n) false ≡ after by_number (last_key (some q.0) l) n
+    go : (t : Bool) → ltb p.0 n ≡ t → ids_below (batches_of (q ∷ l)) n ≡ after by_number (last_key (Some q.0) l) n
+        → (j : ℕ) × (last_key (Some q.0) l ≡ Some j)
+        → cond (ltb p.0 n) (ids_below (batches_of (q ∷ l)) n) false ≡ after by_number (last_key (Some q.0) l) n
     go true e ih j = rw e ih
     go false e ih j =
         let h : p.0 < j.0 = under_last p.0 q.0 l (is_below p.0 q.0 u.0) u.1 j.0 j.1 in
         let g : n ≤ p.0 = ltb-false p.0 n e in
         rw (e, j.1, less-test) (sym (le-ltb j.0 n (omega arith)))
 
-ids-last : (l : List (ℕ × BatchRest)) (n : ℕ) → Rising by_number l → ids_below (batches_of l) n ≡ after by_number (last_key none l) n
+ids-last : (l : List (ℕ × BatchRest)) (n : ℕ) → Rising by_number l → ids_below (batches_of l) n ≡ after by_number (last_key None l) n
 unfolding batches_of
 ids-last [] n r = refl
 ids-last (p ∷ l) n r = above-last p l n r.0 r.1
@@ -145,10 +144,10 @@ after_batches p s =
 abbrev pub rest_of : List Batch → Codec (Layer × (ℕ × (ℕ × (ℕ × ℕ))))
 rest_of bs = records then next_id bs then word then word then number_to 5 refl
 
-rest-same : (l : List (ℕ × BatchRest)) (s : List ℕ) → Rising by_number l → (rest_of (batches_of l)).read s ≡ (records then tail_after (last_key none l)).read s
+rest-same : (l : List (ℕ × BatchRest)) (s : List ℕ) → Rising by_number l → (rest_of (batches_of l)).read s ≡ (records then tail_after (last_key None l)).read s
 rest-same l s r =
-    let f : (only (ids_below (batches_of l)) inode).read ≡ (only (after by_number (last_key none l)) inode).read =
-    λ i s. same_tests (ids_below (batches_of l)) (after by_number (last_key none l)) (λ n. ids-last l n r) s i in
+    let f : (only (ids_below (batches_of l)) inode).read ≡ (only (after by_number (last_key None l)) inode).read =
+    λ i s. same_tests (ids_below (batches_of l)) (after by_number (last_key None l)) (λ n. ids-last l n r) s i in
     ap (λ (p : List ℕ → Parsed ℕ). after_batches p s) f
 
 batches-passed : (s : List ℕ) → passed (batches.read s) ≡ passed (queue_rows.read s)
@@ -159,18 +158,18 @@ batches-passed s = ap passed (batches-rows s) ∙ go (queue_rows.read s)
     go (got l r) = refl
 
 rows-rise : (s : List ℕ) {l : List (ℕ × BatchRest)} {r : List ℕ} → queue_rows.read s ≡ got l r → Rising by_number l
-rows-rise s {l} {r} e = (all-rising by_number inode batch_rest none l (queue_rows-one.forth s l r e).1.1.1).1.0
+rows-rise s {l} {r} e = (all-rising by_number inode batch_rest None l (queue_rows-one.forth s l r e).1.1.1).1.0
 
 module _ {img : List ℕ} where
   ends-batches : {at : ℕ} {r : Result ℕ Fault} → Ends img queue_rows.read at r → Ends img batches.read at r
   ends-batches {at} h = record { same = batches-passed (drop at img) ∙ h.same; within = h.within }
 
   -- the batches and what follows them
-  ends-queue : {at q : ℕ} {r : Result ℕ Fault} {last : Option ℕ} → Ends img queue_rows.read at (Ok q) → last_of none (queue_rows.read (drop at img)) ≡ got last (drop q img)
+  ends-queue : {at q : ℕ} {r : Result ℕ Fault} {last : Option ℕ} → Ends img queue_rows.read at (Ok q) → last_of None (queue_rows.read (drop at img)) ≡ got last (drop q img)
       → Ends img (records then tail_after last).read q r → Ends img (seq batches rest_of).read at r
   ends-queue {at} {q} {last = last} h d g =
       let e = ends-got h in
-      let z : last_key none e.0 ≡ last = let c = rw e.1 at d in cc in
+      let z : last_key None e.0 ≡ last = let c = rw e.1 at d in cc in
       let b : batches.read (drop at img) ≡ got (batches_of e.0) (drop q img) = batches-rows (drop at img) ∙ rw e.1 in
       record {
         same = rw b (passed-made (λ x. (batches_of e.0, x)) ((rest_of (batches_of e.0)).read (drop q img))
@@ -212,7 +211,7 @@ module _ {img : List ℕ} {sought : ℕ} {o : Result (Maybe ℕ × ℕ) Fault} (
         pub surveys-tail : {f : Fault} {r : Result Survey Fault} → w ≡ Err f → r ≡ Err f → SurveyOf img sought r
         surveys-tail x e = stopped e (after-live x)
 
-        pub surveys-all : {c4 : ℕ} {stack : InodeLayerStack} → w ≡ Ok c4 → Pushed queue.stack (place_of top) stack
+        pub surveys-all : {c4 : ℕ} {stack : InodeLayerStack} → w ≡ Ok c4 → Pushed queue.stack top stack
             → Surveyed img sought (record { stack = stack; batches = c1; live = c2; tail = c3; end = c4 })
         surveys-all x p =
             let hb = rw d at b in
@@ -224,7 +223,7 @@ module _ {img : List ℕ} {sought : ℕ} {o : Result (Maybe ℕ × ℕ) Fault} (
                 base = hb.ends;
                 batches = ends-batches hg.ends;
                 live = hl.ends;
-                node = ap place_of (p.base ∙ hg.gathered.base_kept) ∙ hb.found;
+                node = ap (p.base ∙ hg.gathered.base_kept) ∙ hb.found;
                 deltas = rw (p.places, hg.gathered.places, hl.found);
               };
               few = omega (arith, p.few, hg.gathered.few);

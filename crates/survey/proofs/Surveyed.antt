@@ -2,12 +2,11 @@
 -- Assumes nothing.
 use mathlib.Core.Path.{◌≡◌, refl, sym, ap, ◌∙◌, subst}
 use mathlib.Core.List.{List, [], ◌∷◌, ◌++◌}
-use mathlib.Core.Option.{Option, none, some}
 use Prim.Native.Nat.{ℕ, zero, suc, ◌-◌, ◌≤◌}
 use native.Mathlib.Omega.{arith}
 use lib.ListN.{length, drop}
 use Rattle.wire.specs.Parse.{Parsed, fault, got, bind, never-got, bind_inv}
-use Rattle.std.specs.Prelude.{Ok}
+use Rattle.std.specs.Prelude.{Ok, None, Option, Some}
 use Rattle.wire.specs.Codec.{Codec, whole, decode}
 use Rattle.wire.specs.Combinators.{◌then◌, seq}
 use Rattle.wire.specs.declared.time.Time.{Time}
@@ -21,7 +20,6 @@ use Rattle.image.specs.NodeLayout.{node, base}
 use Rattle.image.specs.RecordLayout.{layer_record, records}
 use Rattle.image.specs.StoreLayout.{BatchRest, batch_rest, batch_of, batches, next_id, store_of, store}
 use Rattle.image.specs.Places.{Ends, Holds, rows_from, place_in}
-use Rattle.passes.specs.Held.{place_of}
 use Rattle.survey.specs.Gathering.{list_if, deltas_of, batch_head, record_place, or_none, as_option, batch_places, queue_rows, queue_places}
 use Rattle.survey.specs.Survey.{Surveys}
 use Rattle.image.specs.RoundTrip.{read_image}
@@ -85,15 +83,15 @@ AllHold img p (n ∷ ns) [] = ⊥
 AllHold img p (n ∷ ns) (a ∷ l) = ((r : List ℕ) × (p (drop n img) ≡ got a r)) × AllHold img p ns l
 
 abbrev pub if_there : {A : Type 0} → Option A → List A
-if_there none = []
-if_there (some a) = a ∷ []
+if_there None = []
+if_there (Some a) = a ∷ []
 
 hold-more : {A : Type 0} (img : List ℕ) (p : List ℕ → Parsed A) (o : Option ℕ) (a : Option A) (ns : List ℕ) (l : List A) → Holds img p o a → AllHold img p ns l
     → AllHold img p (list_if o ++ ns) (if_there a ++ l)
-hold-more img p none none ns l h k = k
-hold-more img p none (some a) ns l h k = absurd h
-hold-more img p (some n) none ns l h k = absurd h
-hold-more img p (some n) (some a) ns l h k = (h, k)
+hold-more img p None None ns l h k = k
+hold-more img p None (Some a) ns l h k = absurd h
+hold-more img p (Some n) None ns l h k = absurd h
+hold-more img p (Some n) (Some a) ns l h k = (h, k)
 
 -- the records of an inode in batches, front first
 abbrev pub batch_records : ℕ → List Batch → List Record
@@ -155,12 +153,12 @@ module _ (img : List ℕ) (i : ℕ) where
   unfolding batches_of
   batches-hold zero prev s {l} w d = none-batches s l cc
   batches-hold (suc n) prev s {l} {r} w d =
-      let x = bind_inv ((row by_number inode batch_rest prev).read s) (λ a t. bind (rows_from by_number inode batch_rest n (some a.0) t) (λ m q. got (a ∷ m) q)) d in
-      let y = bind_inv (rows_from by_number inode batch_rest n (some x.0.0) x.1) (λ m q. got (x.0 ∷ m) q) x.3 in
+      let x = bind_inv ((row by_number inode batch_rest prev).read s) (λ a t. bind (rows_from by_number inode batch_rest n (Some a.0) t) (λ m q. got (a ∷ m) q)) d in
+      let y = bind_inv (rows_from by_number inode batch_rest n (Some x.0.0) x.1) (λ m q. got (x.0 ∷ m) q) x.3 in
       let e1 : got (x.0 ∷ y.0) y.1 ≡ got l r = y.3 in
       let el : x.0 ∷ y.0 ≡ l = cc in
       subst (λ (m : List (ℕ × BatchRest)). AllHold img layer_record.read (batch_places (length img) i (suc n) s) (batch_records i (batches_of m))) el
-      (batch-holds n s x.0 x.1 (batches_of y.0) w (batch-apart prev s x.2) (λ u. batches-hold n (some x.0.0) x.1 u y.2))
+      (batch-holds n s x.0 x.1 (batches_of y.0) w (batch-apart prev s x.2) (λ u. batches-hold n (Some x.0.0) x.1 u y.2))
 
 -- ---- the whole survey
 
@@ -179,10 +177,10 @@ read_whole s {st} e = go (store.read s) e
 
 hold-last : {A : Type 0} (img : List ℕ) (p : List ℕ → Parsed A) (ns : List ℕ) (l : List A) (o : Option ℕ) (a : Option A) → AllHold img p ns l → Holds img p o a
     → AllHold img p (ns ++ list_if o) (l ++ if_there a)
-hold-last img p [] [] none none h k = tt
-hold-last img p [] [] none (some a) h k = absurd k
-hold-last img p [] [] (some n) none h k = absurd k
-hold-last img p [] [] (some n) (some a) h k = (k, tt)
+hold-last img p [] [] None None h k = tt
+hold-last img p [] [] None (Some a) h k = absurd k
+hold-last img p [] [] (Some n) None h k = absurd k
+hold-last img p [] [] (Some n) (Some a) h k = (k, tt)
 hold-last img p [] (x ∷ l) o a h k = absurd h
 hold-last img p (n ∷ ns) [] o a h k = absurd h
 hold-last img p (n ∷ ns) (x ∷ l) o a h k = (h.0, hold-last img p ns l o a h.1 k)
@@ -192,17 +190,17 @@ queue-holds : (img : List ℕ) (i n : ℕ) {bs : List Batch} {r : List ℕ} → 
     → AllHold img layer_record.read (queue_places img i n) (batch_records i bs)
 queue-holds img i n {bs} {r} h e =
     let m = made-inv batches_of (queue_rows.read (drop n img)) (sym (batches-rows (drop n img)) ∙ e) in
-    let c = bind_inv (number_read 16 (drop n img)) (λ k t. rows_from by_number inode batch_rest k none t) m.1 in
+    let c = bind_inv (number_read 16 (drop n img)) (λ k t. rows_from by_number inode batch_rest k None t) m.1 in
     let w = suffix-rest (number_to 16 refl) (number_to-one 16 refl) (suffix-drop img n h) c.2 in
     let q : queue_places img i n ≡ batch_places (length img) i c.0 c.1 =
     ap (λ (o : Parsed ℕ). or_none (as_option o) (λ p. batch_places (length img) i p.0 p.1)) c.2 in
     subst (λ (l : List ℕ). AllHold img layer_record.read l (batch_records i bs)) (sym q)
     (subst (λ (l : List Batch). AllHold img layer_record.read (batch_places (length img) i c.0 c.1) (batch_records i l)) m.2
-    (batches-hold img i c.0 none c.1 w c.3))
+    (batches-hold img i c.0 None c.1 w c.3))
 
 -- What a survey found of an inode is what the image's store has: its node, and its record in each layer that has one, the front batch's first.
 pub record SurveyHolds (img : List ℕ) (i : ℕ) (r : Survey) (s : Store) : Type 0 where
-  pub node_held : Holds img node.read (place_of r.stack.base) (get by_number i s.base)
+  pub node_held : Holds img node.read r.stack.base (get by_number i s.base)
   pub records_held : AllHold img layer_record.read (deltas_of r.stack) (records_of i s)
 
 pub survey-holds : {img : List ℕ} {i : ℕ} {r : Survey} {s : Store} → Surveys img i r → read_image img ≡ got s [] → SurveyHolds img i r s

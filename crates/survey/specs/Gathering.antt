@@ -1,6 +1,5 @@
 -- What the pass over an image gathers of one inode: the place of its node, and of its record in each batch, front first, and in live.
-use Rattle.std.specs.Prelude.{◌≡◌, refl, List, [], ◌∷◌, ◌++◌, ℕ, zero, suc, ◌+◌, ◌≤◌, length, take, drop}
-use Rattle.std.proofs.Math.Option.{Option, none, some}
+use Rattle.std.specs.Prelude.{◌≡◌, refl, List, [], ◌∷◌, ◌++◌, ℕ, zero, suc, ◌+◌, ◌≤◌, length, take, drop, None, Option, Some}
 use Rattle.std.specs.Prelude.{Result, Ok, Err}
 use Rattle.std.specs.Prelude.{Option as Maybe}
 use Rattle.wire.specs.declared.fault.Fault.{Fault}
@@ -19,8 +18,8 @@ use Rattle.survey.specs.declared.batch.InodeLayerStack.{InodeLayerStack}
 use Rattle.survey.specs.declared.batch.Batches.{Batches}
 
 abbrev pub list_if : Option ℕ → List ℕ
-list_if none = []
-list_if (some p) = p ∷ []
+list_if None = []
+list_if (Some p) = p ∷ []
 
 -- the records of a stack, the lowest first
 abbrev pub deltas_of : InodeLayerStack → List ℕ
@@ -38,12 +37,12 @@ abbrev pub record_place : ℕ → ℕ → List ℕ → Option ℕ
 record_place size sought s = if_read (number_read last_count s) (λ c r. place_under by_number inode layer_record size sought c r)
 
 abbrev pub or_none : {A B : Type 0} → Option A → (A → List B) → List B
-or_none none g = []
-or_none (some a) g = g a
+or_none None g = []
+or_none (Some a) g = g a
 
 abbrev pub rest_of : {A : Type 0} → Parsed A → Option (List ℕ)
-rest_of (fault f) = none
-rest_of (got a r) = some r
+rest_of (fault f) = None
+rest_of (got a r) = Some r
 
 -- the places of an inode's record in each of n batches
 unfoldable pub batch_places : ℕ → ℕ → ℕ → List ℕ → List ℕ
@@ -69,8 +68,8 @@ abbrev pub queue_rows : Codec (List (ℕ × BatchRest))
 queue_rows = rows by_number inode batch_rest 16 refl
 
 abbrev pub as_option : {A : Type 0} → Parsed A → Option (A × List ℕ)
-as_option (fault f) = none
-as_option (got a r) = some (a, r)
+as_option (fault f) = None
+as_option (got a r) = Some (a, r)
 
 -- where the batches end
 abbrev pub queue_end : Result (Batches × ℕ) Fault → Result ℕ Fault
@@ -79,7 +78,7 @@ queue_end (Err f) = Err f
 
 -- what was gathered of n batches, from `first` on, which end at `end`: the last id, and the places over the node found in the base
 pub record Gathered (img : List ℕ) (sought first n : ℕ) (base : Maybe ℕ) (b : Batches) (end : ℕ) : Type 0 where
-  pub last : last_of none (rows_from by_number inode batch_rest n none (drop first img)) ≡ got (inode_before b.last) (drop end img)
+  pub last : last_of None (rows_from by_number inode batch_rest n None (drop first img)) ≡ got (inode_before b.last) (drop end img)
   pub places : deltas_of b.stack ≡ batch_places (length img) sought n (drop first img)
   pub base_kept : b.stack.base ≡ base
   pub few : b.stack.count ≤ n
@@ -91,7 +90,7 @@ gathered_rows img sought first n base (Err f) = Unit {0}
 
 -- n batches were passed, from `first` on
 pub record Gathers (img : List ℕ) (sought first n : ℕ) (base : Maybe ℕ) (r : Result (Batches × ℕ) Fault) : Type 0 where
-  pub ends : Ends img (rows_from by_number inode batch_rest n none) first (queue_end r)
+  pub ends : Ends img (rows_from by_number inode batch_rest n None) first (queue_end r)
   pub gathered : gathered_rows img sought first n base r
 
 -- the places in the whole list of batches at a place
@@ -100,7 +99,7 @@ queue_places img sought n = or_none (as_option (number_read 16 (drop n img))) (�
 
 -- what was gathered of the whole list
 pub record GatheredQueue (img : List ℕ) (sought at : ℕ) (base : Maybe ℕ) (b : Batches) (end : ℕ) : Type 0 where
-  pub last : last_of none (queue_rows.read (drop at img)) ≡ got (inode_before b.last) (drop end img)
+  pub last : last_of None (queue_rows.read (drop at img)) ≡ got (inode_before b.last) (drop end img)
   pub places : deltas_of b.stack ≡ queue_places img sought at
   pub base_kept : b.stack.base ≡ base
   pub few : b.stack.count ≤ 16

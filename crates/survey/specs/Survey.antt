@@ -1,6 +1,5 @@
 -- What the one pass over an image answers: whether it is by the layout, where its sections stand, and where one inode's records are.
-use Rattle.std.specs.Prelude.{◌≡◌, refl, List, ◌++◌, ℕ, ◌≤◌, length}
-use Rattle.std.proofs.Math.Option.{Option}
+use Rattle.std.specs.Prelude.{◌≡◌, refl, List, ◌++◌, ℕ, ◌≤◌, length, Option}
 use Rattle.std.specs.Prelude.{Result, Ok, Err}
 use Rattle.wire.specs.declared.fault.Fault.{Fault}
 use Rattle.wire.specs.Codec.{Codec}
@@ -13,7 +12,6 @@ use Rattle.image.specs.NodeLayout.{node, base}
 use Rattle.image.specs.RecordLayout.{layer_record, records}
 use Rattle.image.specs.StoreLayout.{batches, store}
 use Rattle.image.specs.Places.{Ends, place_in}
-use Rattle.passes.specs.Held.{place_of}
 use Rattle.survey.specs.Gathering.{list_if, deltas_of, queue_places}
 use Rattle.survey.specs.declared.store.Survey.{Survey}
 
@@ -27,7 +25,7 @@ pub record Surveys (img : List ℕ) (sought : ℕ) (r : Survey) : Type 0 where
   pub base : Ends img base.read 0 (Ok r.batches)
   pub batches : Ends img batches.read r.batches (Ok r.live)
   pub live : Ends img records.read r.live (Ok r.tail)
-  pub node : place_of r.stack.base ≡ place_in by_number inode node img sought 0
+  pub node : r.stack.base ≡ place_in by_number inode node img sought 0
   pub deltas : deltas_of r.stack ≡ queue_places img sought r.batches ++ list_if (place_in by_number inode layer_record img sought r.live)
 
 -- the survey of the one pass: its stack has room for 16 batches and live

@@ -1,8 +1,7 @@
 -- Document 01: "Always first: 1, image over 65,536 bytes; 2, image not by the layout."
-use Rattle.std.specs.Prelude.{◌≡◌, cond, List, ℕ, ltb, length, Result, Some, None, IfOk}
+use Rattle.std.specs.Prelude.{◌≡◌, cond, List, ℕ, ltb, length, Result, Some, None, IfOk, Option}
 use Rattle.std.specs.Prelude.{Option as Maybe}
 use Rattle.std.specs.Result.{result_err}
-use Rattle.std.proofs.Math.Option.{Option, none, some}
 use Rattle.wire.specs.Parse.{Parsed, fault, got}
 use Rattle.image.specs.Meaning.{Store}
 use Rattle.image.specs.RoundTrip.{read_image}
@@ -18,8 +17,8 @@ number_of D.Broken = 2
 
 -- the number of a verdict, which is a refusal or that there is none
 abbrev pub refusal_of : Maybe Refusal → Option ℕ
-refusal_of None = none
-refusal_of (Some r) = some (number_of r)
+refusal_of None = None
+refusal_of (Some r) = Some (number_of r)
 
 -- the same, 0 for none
 abbrev pub refusal_number : Maybe Refusal → ℕ

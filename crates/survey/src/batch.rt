@@ -3,7 +3,6 @@ ghost use Rattle.std.specs.Prelude.{◌≤◌, ◌≡◌, refl, length};
 ghost use Rattle.wire.specs.Number.{between};
 ghost use Rattle.wire.specs.Reading.{Reads};
 ghost use Rattle.image.specs.Places.{Ends};
-ghost use Rattle.passes.specs.Held.{place_of};
 ghost use Rattle.survey.specs.Gathering.{head_rest, Bare, Pushed, Gathers, GathersQueue};
 
 use image::field::{LAST_WORD, pass_number, pass_time};
@@ -40,7 +39,7 @@ fn bare_stack(base: Option<usize>) -> InodeLayerStack
 // The stack with one place more, if it is one.
 pub fn pushed(stack: InodeLayerStack, place: Option<usize>) -> InodeLayerStack
     requires { (stack.count ≤ 16) × (length stack.deltas ≡ 17) }
-    ensures { Pushed stack (place_of place) result }
+    ensures { Pushed stack place result }
 {
     match place {
         Some(p) => {

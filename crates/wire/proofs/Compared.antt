@@ -10,8 +10,8 @@ use Rattle.wire.specs.Order.{reversed, cmp-reversed}
 use Rattle.wire.specs.Orders.{by_bytes, cmp_n, Says, says, less-N, equal-N, and_then}
 use Rattle.wire.specs.Reading.{part}
 use Rattle.wire.specs.Compared.{Before, TextSays, TotalByBytes}
-use Rattle.wire.specs.declared.order.Ordering.{Ordering}
-use Rattle.wire.specs.declared.order.Ordering.TheVariants.{Less, Equal, Greater}
+use Rattle.std.specs.declared.cmp.Ordering.{Ordering}
+use Rattle.std.specs.declared.cmp.Ordering.TheVariants.{Less, Equal, Greater}
 
 before-none : (b : ℕ) (y : List ℕ) → Before [] (b ∷ y)
 before-none b y = record { at = 0; in_x = omega arith; in_y = omega arith; same = refl; smaller = λ h. absurd (omega (arith, h)) }

@@ -1,10 +1,9 @@
 -- Each list has one form, and what was read as a rising list rises.
 -- Assumes nothing.
-use Rattle.std.specs.Prelude.{ℕ, zero, suc, ◌≤◌, ◌≡◌, refl, true, leb, length}
+use Rattle.std.specs.Prelude.{ℕ, zero, suc, ◌≤◌, ◌≡◌, refl, true, leb, length, None, Option, Some}
 use Rattle.std.proofs.Math.Path.{sym, ap, subst}
 use Rattle.std.proofs.Common.{◌∙◌}
 use mathlib.Core.List.{List, [], ◌∷◌, ◌++◌, append_assoc}
-use Rattle.std.proofs.Math.Option.{Option, none, some}
 use Rattle.wire.specs.Parse.{got, bind, never-got, bind_inv}
 use Rattle.wire.specs.Codec.{Codec, OneForm}
 use Rattle.wire.specs.Combinators.{only}
@@ -16,8 +15,8 @@ use Rattle.wire.specs.Maps.{Map, as_map, rows-as_map}
 use Rattle.wire.specs.Lists.{chain_read, chain_write, All, chain, Every, many, counted, is_less, after, row, onto, FitsRow, Above, rows, mapped, rising-read, FitsMap, rising}
 use Rattle.wire.proofs.OneForm.{then-one, only-one, tagged-one}
 use Rattle.wire.proofs.NumberForms.{number_to-one}
-use Rattle.wire.specs.declared.order.Ordering.{Ordering}
-use Rattle.wire.specs.declared.order.Ordering.TheVariants.{Less, Equal, Greater}
+use Rattle.std.specs.declared.cmp.Ordering.{Ordering}
+use Rattle.std.specs.declared.cmp.Ordering.TheVariants.{Less, Equal, Greater}
 
 -- n in a row, each read by what is known after the one before it
 module _ {A S : Type 0} (c : S → Codec A) (next : S → A → S) (one : (st : S) → OneForm (c st)) where
@@ -58,14 +57,14 @@ is-less Greater h = cc
 
 module _ {K A : Type 0} (O : Order K) (key : Codec K) (value : Codec A) where
   lift-above : (prev : Option K) (e : K × A) (l : List (K × A)) → after O prev e.0 ≡ true → Under O e.0 l → Above O key value prev (e ∷ l)
-  lift-above none e l h u = tt
-  lift-above (some p) e l h u = let d = is-less (O.cmp p e.0) h in (d, under-below O p e.0 l d u)
+  lift-above None e l h u = tt
+  lift-above (Some p) e l h u = let d = is-less (O.cmp p e.0) h in (d, under-below O p e.0 l d u)
 
   pub all-rising : (prev : Option K) (l : List (K × A)) → All (row O key value) (onto O key value) prev l → Above O key value prev l × (Rising O l × Every (FitsRow O key value) l)
-  all-rising none [] h = (tt, (tt, tt))
-  all-rising (some p) [] h = (tt, (tt, tt))
+  all-rising None [] h = (tt, (tt, tt))
+  all-rising (Some p) [] h = (tt, (tt, tt))
   all-rising prev (e ∷ l) h =
-      let i = all-rising (some e.0) l h.1 in
+      let i = all-rising (Some e.0) l h.1 in
       (lift-above prev e l h.0.0.1 i.0, ((i.0, i.1.0), ((h.0.0.0, h.0.1), i.1.1)))
 
 module _ {K A : Type 0} (O : Order K) (key : Codec K) (value : Codec A) (one_key : OneForm key) (one_value : OneForm value) where
@@ -75,12 +74,12 @@ module _ {K A : Type 0} (O : Order K) (key : Codec K) (value : Codec A) (one_key
   module _ (most : ℕ) (limit : leb most edge ≡ true) where
     pub rows-one : OneForm (rows O key value most limit)
     rows-one =
-        tagged-one (number_to most limit) length (chain (row O key value) (onto O key value) none) (λ n l h. h.0) (number_to-one most limit)
-        (chain-one (row O key value) (onto O key value) row-one none)
+        tagged-one (number_to most limit) length (chain (row O key value) (onto O key value) None) (λ n l h. h.0) (number_to-one most limit)
+        (chain-one (row O key value) (onto O key value) row-one None)
 
-    mapped-inv : (o : Option (Map O A)) (q : List ℕ) {m : Map O A} {r : List ℕ} → mapped O key value most limit o q ≡ got m r → (o ≡ some m) × (q ≡ r)
-    mapped-inv none q e = never-got e
-    mapped-inv (some n) q e = (cc, cc)
+    mapped-inv : (o : Option (Map O A)) (q : List ℕ) {m : Map O A} {r : List ℕ} → mapped O key value most limit o q ≡ got m r → (o ≡ Some m) × (q ≡ r)
+    mapped-inv None q e = never-got e
+    mapped-inv (Some n) q e = (cc, cc)
 
     pub rising-forth : (s : List ℕ) (m : Map O A) (r : List ℕ) → rising-read O key value most limit s ≡ got m r → (s ≡ (rows O key value most limit).write m.rows ++ r) × FitsMap O key value most limit m
     unfolding rising-read
@@ -90,7 +89,7 @@ module _ {K A : Type 0} (O : Order K) (key : Codec K) (value : Codec A) (one_key
         let f = rows-one.forth s i.0 i.1 i.2 in
         let p : i.0 ≡ m.rows = sym (rows-as_map O i.0 m j.0) in
         subst (λ (l : List (K × A)). (s ≡ (rows O key value most limit).write l ++ r) × ((length l ≤ most) × Every (FitsRow O key value) l)) p
-        (f.0 ∙ ap (λ (q : List ℕ). (rows O key value most limit).write i.0 ++ q) j.1, (f.1.0, (all-rising O key value none i.0 f.1.1.1).1.1))
+        (f.0 ∙ ap (λ (q : List ℕ). (rows O key value most limit).write i.0 ++ q) j.1, (f.1.0, (all-rising O key value None i.0 f.1.1.1).1.1))
 
     pub rising-one : OneForm (rising O key value most limit)
     rising-one = record { forth = rising-forth }

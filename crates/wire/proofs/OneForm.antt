@@ -1,11 +1,10 @@
 -- Each value has one form: the formats made of formats have it where their parts do.
 -- Assumes nothing.
 use Prim.Native.Nat.{ℕ, zero, suc, ◌≤◌}
-use Rattle.std.specs.Prelude.{◌≡◌, Bool, true, false, cond, leb, ltb, length, take, drop}
+use Rattle.std.specs.Prelude.{◌≡◌, Bool, true, false, cond, leb, ltb, length, take, drop, None, Option, Some}
 use Rattle.std.proofs.Math.Path.{refl, ap, subst}
 use Rattle.std.proofs.Common.{sym, ◌∙◌, arith, take-append-drop, length-take-le, leb-true, ltb-true}
 use mathlib.Core.List.{List, [], ◌∷◌, ◌++◌, append_assoc}
-use Rattle.std.proofs.Math.Option.{Option, none, some}
 use Rattle.wire.specs.Parse.{Parsed, got, bind, check, never-got, bind_inv, check_inv}
 use Rattle.wire.specs.Codec.{Codec, OneForm, Bytes}
 use Rattle.wire.specs.Combinators.{nothing, all_bytes, bytes, bytes_read, seq, seq_read, ◌then◌, via, via_read, restated, only, only_read, tagged, tagged_read, count, opt-read, opt_write, opt_fits, optional}
@@ -119,13 +118,13 @@ module _ {A : Type 0} (c : Codec A) (one : OneForm c) where
   pub opt-forth : (b : ℕ) (s : List ℕ) (o : Option A) (r : List ℕ) → opt-read c.read b s ≡ got o r → (s ≡ opt_write c o ++ r) × ((count o ≡ b) × opt_fits c o)
   unfolding opt-read
   opt-forth zero s o r e =
-      let eo : none ≡ o = cc in
+      let eo : None ≡ o = cc in
       let er : s ≡ r = cc in
       subst (λ (y : Option A). (s ≡ opt_write c y ++ r) × ((count y ≡ 0) × opt_fits c y)) eo (er, (refl, tt))
   opt-forth (suc zero) s o r e =
-      let i = bind_inv (c.read s) (λ a r. got (some a) r) e in
-      let e1 : got (some i.0) i.1 ≡ got o r = i.3 in
-      let eo : some i.0 ≡ o = cc in
+      let i = bind_inv (c.read s) (λ a r. got (Some a) r) e in
+      let e1 : got (Some i.0) i.1 ≡ got o r = i.3 in
+      let eo : Some i.0 ≡ o = cc in
       let er : i.1 ≡ r = cc in
       let f = one.forth s i.0 i.1 i.2 in
       subst (λ (y : Option A). (s ≡ opt_write c y ++ r) × ((count y ≡ 1) × opt_fits c y)) eo (f.0 ∙ ap (λ (l : List ℕ). c.write i.0 ++ l) er, (refl, f.1))

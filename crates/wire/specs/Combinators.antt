@@ -1,10 +1,9 @@
 -- Formats made of formats. Each carries that what is written is read back; that each value has one form stands in proofs/OneForm.
 use Prim.Native.Nat.{ℕ, zero, suc, ◌≤◌}
-use Rattle.std.specs.Prelude.{◌≡◌, Bool, true, false, cond, leb, ltb, length, take, drop}
+use Rattle.std.specs.Prelude.{◌≡◌, Bool, true, false, cond, leb, ltb, length, take, drop, None, Option, Some}
 use Rattle.std.proofs.Math.Path.{refl}
 use Rattle.std.proofs.Common.{arith, length-append, take_at, drop_at, leb-true, le-leb, lt-ltb}
 use mathlib.Core.List.{List, [], ◌∷◌, ◌++◌, append_assoc}
-use Rattle.std.proofs.Math.Option.{Option, none, some}
 use Rattle.std.proofs.lemmas.List.{take-append-le, drop-append-le}
 use Rattle.wire.specs.Parse.{Parsed, fault, got, bind, check, Extends, bind-extends, check-extends}
 use Rattle.wire.specs.Codec.{Codec, Bytes, plain-append}
@@ -143,28 +142,28 @@ module _ {A T : Type 0} (c : Codec T) (tag : A → T) (d : T → Codec A) (agree
   }
 
 abbrev pub count : {A : Type 0} → Option A → ℕ
-count none = 0
-count (some a) = 1
+count None = 0
+count (Some a) = 1
 
 -- a field that is there, or not, as a bit says
 unfoldable pub opt-read : {A : Type 0} → (List ℕ → Parsed A) → ℕ → List ℕ → Parsed (Option A)
-opt-read p zero s = got none s
-opt-read p (suc zero) s = bind (p s) (λ a r. got (some a) r)
+opt-read p zero s = got None s
+opt-read p (suc zero) s = bind (p s) (λ a r. got (Some a) r)
 opt-read p (suc (suc n)) s = fault Malformed
 
 module _ {A : Type 0} (c : Codec A) where
   abbrev pub opt_write : Option A → List ℕ
-  opt_write none = []
-  opt_write (some a) = c.write a
+  opt_write None = []
+  opt_write (Some a) = c.write a
 
   abbrev pub opt_fits : Option A → Type 0
-  opt_fits none = Unit {0}
-  opt_fits (some a) = c.Fits a
+  opt_fits None = Unit {0}
+  opt_fits (Some a) = c.Fits a
 
   present : (o : Option A) (r : List ℕ) → opt_fits o → opt-read c.read (count o) (opt_write o ++ r) ≡ got o r
   unfolding opt-read
-  present none r h = refl
-  present (some a) r h = rw (c.back a r h)
+  present None r h = refl
+  present (Some a) r h = rw (c.back a r h)
 
   pub opt-back : (b : ℕ) (o : Option A) (r : List ℕ) → (count o ≡ b) × opt_fits o → opt-read c.read b (opt_write o ++ r) ≡ got o r
   opt-back b o r h = rw (← h.0) (present o r h.1)
@@ -176,8 +175,8 @@ module _ {A : Type 0} (c : Codec A) where
   opt-steady (suc (suc n)) s t = refl
 
   pub opt-plain : (o : Option A) → opt_fits o → Bytes (opt_write o)
-  opt-plain none h = tt
-  opt-plain (some a) h = c.plain a h
+  opt-plain None h = tt
+  opt-plain (Some a) h = c.plain a h
 
   abbrev pub optional : ℕ → Codec (Option A)
   optional b = record {

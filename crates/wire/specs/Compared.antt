@@ -1,8 +1,8 @@
 -- Document 02, T-03: one comparison of a stored name "answers less, equal or greater by bytes, proved for every part of the image".
 use Rattle.std.specs.Prelude.{◌≡◌, List, ℕ, ◌≤◌, ◌<◌, length, take, get_or}
 use Rattle.wire.specs.Reading.{part}
-use Rattle.wire.specs.declared.order.Ordering.{Ordering}
-use Rattle.wire.specs.declared.order.Ordering.TheVariants.{Less, Equal, Greater}
+use Rattle.std.specs.declared.cmp.Ordering.{Ordering}
+use Rattle.std.specs.declared.cmp.Ordering.TheVariants.{Less, Equal, Greater}
 
 -- a text comes before another: up to some place their bytes are the same, and there it has ended, or has the smaller byte
 pub record Before (x y : List ℕ) : Type 0 where

@@ -1,9 +1,8 @@
 -- Document 01: "Every list has its count first; rising means strictly, names by bytes, so nothing stands twice."
 -- "Counts below 2^32." A rising list is a map; each key is judged as soon as it is read, before what stands under it.
-use Rattle.std.specs.Prelude.{ℕ, zero, suc, ◌≤◌, ◌≡◌, refl, Bool, true, false, leb, length}
+use Rattle.std.specs.Prelude.{ℕ, zero, suc, ◌≤◌, ◌≡◌, refl, Bool, true, false, leb, length, None, Option, Some}
 use Rattle.std.proofs.Common.{arith}
 use mathlib.Core.List.{List, [], ◌∷◌, ◌++◌, append_assoc}
-use Rattle.std.proofs.Math.Option.{Option, none, some}
 use Rattle.wire.specs.Parse.{Parsed, fault, got, bind, Extends, bind-extends}
 use Rattle.wire.specs.Codec.{Codec, Bytes, plain-append}
 use Rattle.wire.specs.Combinators.{◌then◌, only, tagged}
@@ -12,8 +11,8 @@ use Rattle.wire.specs.Order.{Order}
 use Rattle.wire.specs.Rows.{Under, Rising}
 use Rattle.wire.specs.Maps.{Map, as_map, as_map-rows}
 use Rattle.wire.specs.declared.fault.Fault.TheVariants.{Malformed}
-use Rattle.wire.specs.declared.order.Ordering.{Ordering}
-use Rattle.wire.specs.declared.order.Ordering.TheVariants.{Less, Equal, Greater}
+use Rattle.std.specs.declared.cmp.Ordering.{Ordering}
+use Rattle.std.specs.declared.cmp.Ordering.TheVariants.{Less, Equal, Greater}
 
 -- n in a row, each read by what is known after the one before it
 module _ {A S : Type 0} (c : S → Codec A) (next : S → A → S) where
@@ -83,8 +82,8 @@ is_less Greater = false
 
 -- k is after the key before it, if there is one
 abbrev pub after : {K : Type 0} → Order K → Option K → K → Bool
-after O none k = true
-after O (some p) k = is_less (O.cmp p k)
+after O None k = true
+after O (Some p) k = is_less (O.cmp p k)
 
 module _ {K A : Type 0} (O : Order K) (key : Codec K) (value : Codec A) where
   -- a row, after the key `prev`
@@ -92,7 +91,7 @@ module _ {K A : Type 0} (O : Order K) (key : Codec K) (value : Codec A) where
   row prev = only (after O prev) key then value
 
   abbrev pub onto : Option K → K × A → Option K
-  onto prev e = some e.0
+  onto prev e = Some e.0
 
   -- the key fits, and what stands under it
   abbrev pub FitsRow : K × A → Type 0
@@ -100,27 +99,27 @@ module _ {K A : Type 0} (O : Order K) (key : Codec K) (value : Codec A) where
 
   -- every key is above `prev`
   abbrev pub Above : Option K → List (K × A) → Type 0
-  Above none l = Unit {0}
-  Above (some p) l = Under O p l
+  Above None l = Unit {0}
+  Above (Some p) l = Under O p l
 
   above-after : (prev : Option K) (e : K × A) (l : List (K × A)) → Above prev (e ∷ l) → after O prev e.0 ≡ true
-  above-after none e l u = refl
-  above-after (some p) e l u = rw u.0
+  above-after None e l u = refl
+  above-after (Some p) e l u = rw u.0
 
   rising-all : (prev : Option K) (l : List (K × A)) → Above prev l → Rising O l → Every FitsRow l → All row onto prev l
   rising-all prev [] u r h = tt
   rising-all prev (e ∷ l) u r h =
-      (((h.0.0, above-after prev e l u), h.0.1), rising-all (some e.0) l r.0 r.1 h.1)
+      (((h.0.0, above-after prev e l u), h.0.1), rising-all (Some e.0) l r.0 r.1 h.1)
 
   -- a count of at most `most`, and as many rows, whose keys rise; `refl` says that 64 bits hold `most`
   module _ (most : ℕ) (limit : leb most edge ≡ true) where
     abbrev pub rows : Codec (List (K × A))
-    rows = tagged (number_to most limit) length (chain row onto none) (λ n l h. h.0)
+    rows = tagged (number_to most limit) length (chain row onto None) (λ n l h. h.0)
 
     -- rows that rise are a map; others are not read
     abbrev pub mapped : Option (Map O A) → List ℕ → Parsed (Map O A)
-    mapped none r = fault Malformed
-    mapped (some m) r = got m r
+    mapped None r = fault Malformed
+    mapped (Some m) r = got m r
 
     unfoldable pub rising-read : List ℕ → Parsed (Map O A)
     rising-read s = bind (rows.read s) (λ l r. mapped (as_map O l) r)
@@ -129,15 +128,15 @@ module _ {K A : Type 0} (O : Order K) (key : Codec K) (value : Codec A) where
     FitsMap m = (length m.rows ≤ most) × Every FitsRow m.rows
 
     pub rows_fit : (m : Map O A) → FitsMap m → rows.Fits m.rows
-    rows_fit m h = (h.0, (refl, rising-all none m.rows tt m.rising h.1))
+    rows_fit m h = (h.0, (refl, rising-all None m.rows tt m.rising h.1))
 
     pub rising-back : (m : Map O A) (r : List ℕ) → FitsMap m → rising-read (rows.write m.rows ++ r) ≡ got m r
     unfolding rising-read
     rising-back m r h = rw (rows.back m.rows r (rows_fit m h), as_map-rows O m)
 
     mapped-extends : (t : List ℕ) (o : Option (Map O A)) (r : List ℕ) → Extends t (mapped o r) (mapped o (r ++ t))
-    mapped-extends t none r = refl
-    mapped-extends t (some m) r = refl
+    mapped-extends t None r = refl
+    mapped-extends t (Some m) r = refl
 
     pub rising-steady : (s t : List ℕ) → Extends t (rising-read s) (rising-read (s ++ t))
     unfolding rising-read

@@ -1,13 +1,12 @@
 -- Finite maps: rows in rising order, with the proof that they rise, so that two maps with the same answers are equal.
 -- One changing operation, `merge`, serves every place where one map is put over another: entries added, entries removed,
 -- attribute changes, a layer of records over a base.
-use Rattle.std.specs.Prelude.{◌≡◌, Bool, true, false}
+use Rattle.std.specs.Prelude.{◌≡◌, Bool, true, false, None, Option, Some}
 use Rattle.std.proofs.Math.Path.{refl}
-use Rattle.std.proofs.Math.Option.{Option, none, some}
 use mathlib.Core.List.{List, [], ◌∷◌}
 use mathlib.Core.HLevel.{is_prop→PathP}
-use Rattle.wire.specs.declared.order.Ordering.{Ordering}
-use Rattle.wire.specs.declared.order.Ordering.TheVariants.{Less, Equal, Greater}
+use Rattle.std.specs.declared.cmp.Ordering.{Ordering}
+use Rattle.std.specs.declared.cmp.Ordering.TheVariants.{Less, Equal, Greater}
 use Rattle.wire.specs.Order.{Order}
 use Rattle.wire.specs.Rows.{choose, lookup, set, Under, Rising}
 use Rattle.wire.specs.RowLaws.{lookup-set, set-rising, lookup-under, ext, Rising-prop, never-lt, never-lg}
@@ -18,13 +17,13 @@ pub record Map {K : Type 0} (O : Order K) (A : Type 0) : Type 0 where
 
 -- what is there after a change x, or none, meets what was there
 abbrev pub meet : {C X : Type 0} → (C → X → X) → Option C → X → X
-meet g none x = x
-meet g (some c) x = g c x
+meet g None x = x
+meet g (Some c) x = g c x
 
 -- an answer, if a test lets it stand
 abbrev pub sift : {A : Type 0} → (A → Bool) → Option A → Option A
-sift p none = none
-sift p (some a) = elim (p a) [ true ↦ some a | false ↦ none ]
+sift p None = None
+sift p (Some a) = elim (p a) [ true ↦ Some a | false ↦ None ]
 
 module _ {K : Type 0} (O : Order K) where
   unfoldable pub empty : {A : Type 0} → Map O A
@@ -46,9 +45,9 @@ module _ {K : Type 0} (O : Order K) where
 
   -- the rows that pass a test
   unfoldable pub keep : {A : Type 0} → (K → A → Bool) → Map O A → Map O A
-  keep p m = merge (λ k a o. sift (p k) (some a)) m empty
+  keep p m = merge (λ k a o. sift (p k) (Some a)) m empty
 
-  pub get-empty : {A : Type 0} (k : K) → get {A = A} k empty ≡ none
+  pub get-empty : {A : Type 0} (k : K) → get {A = A} k empty ≡ None
   unfolding get empty lookup
   get-empty k = refl
 
@@ -74,7 +73,7 @@ module _ {K : Type 0} (O : Order K) where
         go Greater h ih = rw (get-put, h) ih
         go Equal h ih =
             let z : k ≡ c.0 = O.same k c.0 h in
-            let n : lookup O k l ≡ none = rw z (lookup-under O c.0 l r.0) in
+            let n : lookup O k l ≡ None = rw z (lookup-under O c.0 l r.0) in
             rw (get-put, h, ← z, ih, n)
 
     pub get-merge : (k : K) (c : Map O C) (m : Map O A) → get k (merge g c m) ≡ meet (g k) (get k c) (get k m)
@@ -85,9 +84,9 @@ module _ {K : Type 0} (O : Order K) where
   unfolding keep
   get-keep {A} p k m = simp (get-merge, get-empty) (go (get k m))
     where
-      go : (o : Option A) → meet (λ a o. sift (p k) (some a)) o none ≡ sift (p k) o
-      go none = refl
-      go (some a) = refl
+      go : (o : Option A) → meet (λ a o. sift (p k) (Some a)) o None ≡ sift (p k) o
+      go None = refl
+      go (Some a) = refl
 
   -- rows as a map, if they rise
   unfoldable pub under? : {A : Type 0} (k : K) (l : List (K × A)) → Dec (Under O k l)
@@ -111,24 +110,24 @@ module _ {K : Type 0} (O : Order K) where
 
   module _ {A : Type 0} where
     abbrev pub map_if : (l : List (K × A)) → Dec (Rising O l) → Option (Map O A)
-    map_if l (yes r) = some (record { rows = l; rising = r })
-    map_if l (no n) = none
+    map_if l (yes r) = Some (record { rows = l; rising = r })
+    map_if l (no n) = None
 
     unfoldable pub as_map : List (K × A) → Option (Map O A)
     as_map l = map_if l (rising? l)
 
-    pub as_map-rows : (m : Map O A) → as_map m.rows ≡ some m
+    pub as_map-rows : (m : Map O A) → as_map m.rows ≡ Some m
     unfolding as_map
     as_map-rows m = go (rising? m.rows)
       where
-        go : (d : Dec (Rising O m.rows)) → map_if m.rows d ≡ some m
-        go (yes r) = λ i. some (record { rows = m.rows; rising = Rising-prop O m.rows r m.rising i })
+        go : (d : Dec (Rising O m.rows)) → map_if m.rows d ≡ Some m
+        go (yes r) = λ i. Some (record { rows = m.rows; rising = Rising-prop O m.rows r m.rising i })
         go (no n) = absurd (n m.rising)
 
-    pub rows-as_map : (l : List (K × A)) (m : Map O A) → as_map l ≡ some m → m.rows ≡ l
+    pub rows-as_map : (l : List (K × A)) (m : Map O A) → as_map l ≡ Some m → m.rows ≡ l
     unfolding as_map
     rows-as_map l m = go (rising? l)
       where
-        go : (d : Dec (Rising O l)) → map_if l d ≡ some m → m.rows ≡ l
+        go : (d : Dec (Rising O l)) → map_if l d ≡ Some m → m.rows ≡ l
         go (yes r) e = cc
         go (no n) e = cc

@@ -1,12 +1,11 @@
 -- The laws of rows in rising order.
-use Rattle.std.specs.Prelude.{◌≡◌, ℕ}
+use Rattle.std.specs.Prelude.{◌≡◌, ℕ, None, Option, Some}
 use Rattle.std.proofs.Math.Path.{refl}
-use Rattle.std.proofs.Math.Option.{Option, none, some}
 use mathlib.Core.List.{List, [], ◌∷◌}
 use mathlib.Core.HLevel.{Unit-prop, ×_prop}
 use Rattle.std.proofs.Common.{arith}
-use Rattle.wire.specs.declared.order.Ordering.{Ordering}
-use Rattle.wire.specs.declared.order.Ordering.TheVariants.{Less, Equal, Greater}
+use Rattle.std.specs.declared.cmp.Ordering.{Ordering}
+use Rattle.std.specs.declared.cmp.Ordering.TheVariants.{Less, Equal, Greater}
 use Rattle.wire.specs.Order.{Order, Ordering-set}
 use Rattle.wire.specs.Rows.{choose, lookup, place, insert, remove, set, Under, Rising}
 
@@ -44,32 +43,32 @@ module _ {K : Type 0} (O : Order K) where
       n (cc (O.self j))
 
   module _ {A : Type 0} where
-    pub lookup-insert : (j k : K) (v : A) (l : List (K × A)) → lookup O j (insert O k v l) ≡ choose (O.cmp j k) (some v) (lookup O j l)
+    pub lookup-insert : (j k : K) (v : A) (l : List (K × A)) → lookup O j (insert O k v l) ≡ choose (O.cmp j k) (Some v) (lookup O j l)
     unfolding lookup insert
     lookup-insert j k v [] = refl
     lookup-insert j k v (e ∷ l) = go (O.cmp k e.0) refl (lookup-insert j k v l)
       where
-        go : (c : Ordering) → O.cmp k e.0 ≡ c → lookup O j (insert O k v l) ≡ choose (O.cmp j k) (some v) (lookup O j l)
-            → lookup O j (place O c (k, v) e l (insert O k v l)) ≡ choose (O.cmp j k) (some v) (lookup O j (e ∷ l))
+        go : (c : Ordering) → O.cmp k e.0 ≡ c → lookup O j (insert O k v l) ≡ choose (O.cmp j k) (Some v) (lookup O j l)
+            → lookup O j (place O c (k, v) e l (insert O k v l)) ≡ choose (O.cmp j k) (Some v) (lookup O j (e ∷ l))
         go Less h ih = refl
         go Equal h ih = rw (O.same k e.0 h, absorb)
         go Greater h ih = rw ih (swap _ _ _ _ _ (apart j k e.0 (never-gt _ h)))
 
-    pub lookup-remove : (j k : K) (l : List (K × A)) → lookup O j (remove O k l) ≡ choose (O.cmp j k) none (lookup O j l)
+    pub lookup-remove : (j k : K) (l : List (K × A)) → lookup O j (remove O k l) ≡ choose (O.cmp j k) None (lookup O j l)
     unfolding lookup remove
     lookup-remove j k [] = rw idem
     lookup-remove j k (e ∷ l) = go (O.cmp k e.0) refl (lookup-remove j k l)
       where
-        go : (c : Ordering) → O.cmp k e.0 ≡ c → lookup O j (remove O k l) ≡ choose (O.cmp j k) none (lookup O j l)
-            → lookup O j (choose c (remove O k l) (e ∷ remove O k l)) ≡ choose (O.cmp j k) none (lookup O j (e ∷ l))
+        go : (c : Ordering) → O.cmp k e.0 ≡ c → lookup O j (remove O k l) ≡ choose (O.cmp j k) None (lookup O j l)
+            → lookup O j (choose c (remove O k l) (e ∷ remove O k l)) ≡ choose (O.cmp j k) None (lookup O j (e ∷ l))
         go Less h ih = rw ih (swap _ _ _ _ _ (apart j k e.0 (never-lt _ h)))
         go Equal h ih = rw (ih, O.same k e.0 h, absorb)
         go Greater h ih = rw ih (swap _ _ _ _ _ (apart j k e.0 (never-gt _ h)))
 
     pub lookup-set : (j k : K) (o : Option A) (l : List (K × A)) → lookup O j (set O k o l) ≡ choose (O.cmp j k) o (lookup O j l)
     unfolding set
-    lookup-set j k none l = lookup-remove j k l
-    lookup-set j k (some v) l = lookup-insert j k v l
+    lookup-set j k None l = lookup-remove j k l
+    lookup-set j k (Some v) l = lookup-insert j k v l
 
     pub under-insert : (a k : K) (v : A) (l : List (K × A)) → O.cmp a k ≡ Less → Under O a l → Under O a (insert O k v l)
     unfolding insert
@@ -117,10 +116,10 @@ module _ {K : Type 0} (O : Order K) where
 
     pub set-rising : (k : K) (o : Option A) (l : List (K × A)) → Rising O l → Rising O (set O k o l)
     unfolding set
-    set-rising k none l r = remove-rising k l r
-    set-rising k (some v) l r = insert-rising k v l r
+    set-rising k None l r = remove-rising k l r
+    set-rising k (Some v) l r = insert-rising k v l r
 
-    pub lookup-under : (k : K) (l : List (K × A)) → Under O k l → lookup O k l ≡ none
+    pub lookup-under : (k : K) (l : List (K × A)) → Under O k l → lookup O k l ≡ None
     unfolding lookup
     lookup-under k [] u = refl
     lookup-under k (e ∷ l) u = rw u.0 (lookup-under k l u.1)
@@ -133,10 +132,10 @@ module _ {K : Type 0} (O : Order K) where
     ext (e ∷ l) [] r s h = let x = h e.0 in let y = O.self e.0 in cc
     ext (e ∷ l) (f ∷ m) r s h = go (O.cmp e.0 f.0) refl (ext l m r.1 s.1)
       where
-        here : lookup O e.0 (e ∷ l) ≡ some e.1
+        here : lookup O e.0 (e ∷ l) ≡ Some e.1
         here = rw (O.self e.0)
 
-        there : lookup O f.0 (f ∷ m) ≡ some f.1
+        there : lookup O f.0 (f ∷ m) ≡ Some f.1
         there = rw (O.self f.0)
 
         tail : (i : K) → e.0 ≡ f.0 → (c : Ordering) → O.cmp i e.0 ≡ c → lookup O i l ≡ lookup O i m

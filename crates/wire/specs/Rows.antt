@@ -1,8 +1,7 @@
 -- Rows (key, value) in rising order, over any ordered keys: lookup, insert, remove.
-use Rattle.std.specs.Prelude.{◌≡◌, List, [], ◌∷◌}
-use Rattle.std.proofs.Math.Option.{Option, none, some}
-use Rattle.wire.specs.declared.order.Ordering.{Ordering}
-use Rattle.wire.specs.declared.order.Ordering.TheVariants.{Less, Equal, Greater}
+use Rattle.std.specs.Prelude.{◌≡◌, List, [], ◌∷◌, None, Option, Some}
+use Rattle.std.specs.declared.cmp.Ordering.{Ordering}
+use Rattle.std.specs.declared.cmp.Ordering.TheVariants.{Less, Equal, Greater}
 use Rattle.wire.specs.Order.{Order}
 
 -- the first where a comparison says equal, else the second
@@ -14,8 +13,8 @@ choose Greater a b = b
 module _ {K : Type 0} (O : Order K) where
   module _ {A : Type 0} where
     unfoldable pub lookup : K → List (K × A) → Option A
-    lookup k [] = none
-    lookup k (e ∷ l) = choose (O.cmp k e.0) (some e.1) (lookup k l)
+    lookup k [] = None
+    lookup k (e ∷ l) = choose (O.cmp k e.0) (Some e.1) (lookup k l)
 
     abbrev pub place : Ordering → K × A → K × A → List (K × A) → List (K × A) → List (K × A)
     place Less new e l rest = new ∷ (e ∷ l)
@@ -31,8 +30,8 @@ module _ {K : Type 0} (O : Order K) where
     remove k (e ∷ l) = choose (O.cmp k e.0) (remove k l) (e ∷ remove k l)
 
     unfoldable pub set : K → Option A → List (K × A) → List (K × A)
-    set k none l = remove k l
-    set k (some v) l = insert k v l
+    set k None l = remove k l
+    set k (Some v) l = insert k v l
 
     -- k is below each key
     abbrev pub Under : K → List (K × A) → Type 0
