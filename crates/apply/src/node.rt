@@ -9,7 +9,7 @@ use deltas::delta::{NodeDelta, attr_delta};
 use merge::source::no_value;
 use nodes::attr::AttrDelta;
 use nodes::node::{InodeMeta, Node, NodeKind};
-use nodes::part::Part;
+use wire::text::Part;
 
 // The initial permission and links of a delta's kind; owner, group and times are 0.
 fn initial_meta(delta: NodeDelta) -> InodeMeta

@@ -9,7 +9,7 @@ use lib.ListN.{length, drop, length-drop}
 use lib.Seq.{length-take-le}
 use Rattle.rules.specs.Fold.{given}
 use Rattle.rules.specs.FileAttrs.{base_size, change_size}
-use Rattle.nodes.specs.declared.part.Part.{Part}
+use Rattle.wire.specs.declared.text.Part.{Part}
 use Rattle.deltas.specs.declared.delta.SymlinkDelta.{SymlinkDelta}
 use Rattle.deltas.specs.declared.delta.NodeDelta.{NodeDelta}
 use Rattle.deltas.specs.declared.delta.NodeDelta.TheVariants as D

@@ -7,7 +7,8 @@ ghost use Rattle.deltas.specs.Deltas.{attr_of, special_delta, ReadsDelta, ReadsE
 use image::name::Under;
 use nodes::attr::{AttrDelta, read_attr_delta};
 use nodes::option::{read_maybe_number, read_maybe_text};
-use nodes::part::{Part, read_names};
+use wire::text::Part;
+use nodes::part::read_names;
 use wire::cursor::Cursor;
 use wire::number::read_number;
 

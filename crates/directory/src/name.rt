@@ -7,7 +7,7 @@ ghost use Rattle.image.specs.Under.{under};
 ghost use Rattle.change.specs.Cuts.{Cuts, CutsList};
 ghost use Rattle.directory.specs.Entries.{has_row, stays_absent, changed_rows, cut_list, RowChanged};
 
-use nodes::part::Part;
+use wire::text::{Part, read_text};
 use std::cmp::Ordering;
 use change::cut::{Cut, count_after};
 use image::name::{Under, pass_under};
@@ -16,7 +16,6 @@ use wire::cursor::{Cursor, place_at};
 use wire::number::read_number;
 use wire::order::compare_part;
 use wire::put::advance;
-use wire::text::read_text;
 
 // The list with the row of a name as it is to be.
 pub fn with_row(img: &[u8], list: Option<Part>, what: Under, name: &[u8], new: NewRow) -> NewList

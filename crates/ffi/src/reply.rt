@@ -7,7 +7,7 @@ ghost use Rattle.attrs.specs.Meant.{kind_meant, attr_meant};
 ghost use Rattle.layers.specs.Answered.{yes_no, type_answered, inode_answered, attr_answered};
 ghost use Rattle.ffi.specs.Replies.{yes_no_reply, type_reply, inode_reply, time_out, attr_out, no_attr, attr_reply, no_text, TextReplies, time_given, reply_of};
 
-use nodes::part::Part;
+use wire::text::Part;
 use attrs::node::{FileAttr, FileType};
 use change::answer::ChangeAnswer;
 use layers::answer::{AttrAnswer, InodeAnswer, TypeAnswer, YesNo};

@@ -1,6 +1,6 @@
 -- Fields merged by value: the new one, if it is there. Document 01: "Update merges into a live delta, field by field".
 use Rattle.wire.specs.declared.time.Time.{Time}
-use Rattle.nodes.specs.declared.part.Part.{Part}
+use Rattle.wire.specs.declared.text.Part.{Part}
 use Rattle.std.specs.Prelude.{None, Option, Some, ℕ}
 use Rattle.nodes.specs.Attrs.{attr_delta}
 use Rattle.nodes.specs.declared.attr.AttrDelta.{AttrDelta}

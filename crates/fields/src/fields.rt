@@ -2,7 +2,7 @@
 ghost use Rattle.std.specs.Prelude.{◌≡◌};
 ghost use Rattle.fields.specs.Fields.{or_word, or_time, or_part, words_over, times_over, attr_over};
 
-use nodes::part::Part;
+use wire::text::Part;
 use wire::time::Time;
 use nodes::attr::{AttrDelta, Times, Words};
 

@@ -12,7 +12,7 @@ use attrs::node::{FileType, kind_type};
 use deltas::delta::{EntryDelta, NodeDelta, attr_delta};
 use gather::gather::of_type;
 use nodes::node::{Node, NodeKind};
-use nodes::part::Part;
+use wire::text::Part;
 use records::write_node::{kind_number, put_body};
 use stack::stack::{base_node, record_at};
 use survey::batch::InodeLayerStack;

@@ -13,7 +13,7 @@ use attrs::node::FileType;
 use gather::gather::{Lists, gather_sources};
 use merge::merge::{Sources, next_given};
 use merge::source::Head;
-use nodes::part::Part;
+use wire::text::Part;
 use survey::batch::InodeLayerStack;
 use wire::number::put_number;
 use wire::put::advance;

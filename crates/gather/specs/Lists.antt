@@ -1,5 +1,5 @@
 -- The lists that a record and a node have by value, as sources.
-use Rattle.nodes.specs.declared.part.Part.{Part}
+use Rattle.wire.specs.declared.text.Part.{Part}
 use Rattle.std.specs.Prelude.{Bool, true, false, cond, List, [], ◌∷◌, ℕ, None, Option, Some}
 use Rattle.image.specs.Meaning.{Kind, changed_kind}
 use Rattle.image.specs.declared.name.Under.TheVariants as U

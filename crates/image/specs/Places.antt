@@ -1,6 +1,6 @@
 -- Where the fields of an image stand: what the readers that pass over a construct promise.
 use Rattle.std.specs.Prelude.{◌≡◌, ◌≤◌, Result, Ok, Err, Some, None, List, [], ◌∷◌, ℕ, zero, suc, ◌-◌, length, drop, Option}
-use Rattle.std.specs.Prelude.{Option as Maybe}
+use Rattle.std.specs.Prelude.{Option}
 use Rattle.wire.specs.declared.fault.Fault.{Fault}
 use Rattle.wire.specs.declared.text.Part.{Part}
 use Rattle.wire.specs.Parse.{Parsed, fault, got, bind}
@@ -73,11 +73,7 @@ Holds img p (Some n) None = ⊥
 Holds img p (Some n) (Some a) = (r : List ℕ) × (p (drop n img) ≡ got a r)
 
 -- the name before, if there is one
-abbrev pub name_before : List ℕ → Maybe Part → Option (List ℕ)
+abbrev pub name_before : List ℕ → Option Part → Option (List ℕ)
 name_before img None = None
 name_before img (Some p) = Some (part img p.start p.length)
 
--- the inode before, if there is one
-abbrev pub inode_before : Maybe ℕ → Option ℕ
-inode_before None = None
-inode_before (Some i) = Some i

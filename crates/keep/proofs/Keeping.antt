@@ -34,7 +34,7 @@ use Rattle.image.specs.Under.{UnderName, under}
 use Rattle.image.specs.declared.name.Under as UnderN
 use Rattle.image.specs.declared.name.Under.TheVariants as U
 use Rattle.nodes.specs.Listed.{by_name, list_at}
-use Rattle.nodes.specs.declared.part.Part.{Part}
+use Rattle.wire.specs.declared.text.Part.{Part}
 use Rattle.writers.proofs.Writing.{part-written}
 use Rattle.rules.specs.Changes.{map_if}
 use Rattle.lookup.specs.Search.{IsList, row_name, Standing, ReadsRow}

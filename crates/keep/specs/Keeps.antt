@@ -13,7 +13,7 @@ use Rattle.image.specs.Under.{UnderName, under}
 use Rattle.image.specs.declared.name.Under.{Under}
 use Rattle.image.specs.declared.name.Under.TheVariants as U
 use Rattle.nodes.specs.Listed.{list_at}
-use Rattle.nodes.specs.declared.part.Part.{Part}
+use Rattle.wire.specs.declared.text.Part.{Part}
 use Rattle.rules.specs.Reads.{is_there}
 use Rattle.rules.specs.Changes.{map_if}
 use Rattle.rules.specs.Normalise.{leads_to}

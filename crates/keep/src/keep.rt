@@ -15,7 +15,7 @@ use change::copy::put_between;
 use image::name::Under;
 use lookup::search::{read_row, rows_of};
 use merge::merge::{Merge, settle};
-use nodes::part::Part;
+use wire::text::Part;
 use wire::cursor::Cursor;
 use wire::number::{put_number, read_number};
 use wire::order::compare_part;

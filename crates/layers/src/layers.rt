@@ -7,7 +7,7 @@ ghost use Rattle.nodes.specs.Options.{text_of as textMeant};
 ghost use Rattle.stack.specs.Stacks.{Stacked, shown};
 ghost use Rattle.layers.specs.Answered.{yes_no, type_answered, inode_answered};
 
-use nodes::part::Part;
+use wire::text::Part;
 use crate::answer::{InodeAnswer, TypeAnswer, YesNo};
 use deltas::delta::{EntryDelta, NodeDelta};
 use nodes::node::NodeKind;

@@ -20,7 +20,7 @@ use Rattle.image.specs.declared.name.Under.TheVariants as U
 use Rattle.image.specs.Meaning.{Text}
 use Rattle.image.specs.Under.{under}
 use Rattle.rules.specs.Reads.{child, step_child}
-use Rattle.nodes.specs.declared.part.Part.{Part}
+use Rattle.wire.specs.declared.text.Part.{Part}
 use Rattle.deltas.specs.declared.delta.DirectoryDelta.{DirectoryDelta}
 use Rattle.deltas.specs.declared.delta.NodeDelta.{NodeDelta}
 use Rattle.deltas.specs.declared.delta.NodeDelta.TheVariants as D

@@ -28,7 +28,7 @@ use Rattle.image.specs.Places.{Ends, rows_from, Holds}
 use Rattle.image.proofs.Passing.{ends-got, ends-fault}
 use Rattle.image.proofs.Holding.{Row, apart}
 use Rattle.nodes.specs.Listed.{by_name, list_at, Listed}
-use Rattle.nodes.specs.declared.part.Part.{Part}
+use Rattle.wire.specs.declared.text.Part.{Part}
 use Rattle.lookup.specs.declared.search.Rows.{Rows}
 use Rattle.lookup.specs.declared.search.RowRead.{RowRead}
 use Rattle.lookup.specs.Search.{row_name, Standing, ListRows, RowAt, ReadsRow}

@@ -1,5 +1,5 @@
 -- The layers of a stack as a child lookup meets them: the base is layer 0, and record i is layer i + 1.
-use Rattle.nodes.specs.declared.part.Part.{Part}
+use Rattle.wire.specs.declared.text.Part.{Part}
 use Rattle.std.specs.Prelude.{◌≡◌, List, ℕ, zero, suc, None, Option, Some}
 use Rattle.wire.specs.Orders.{by_bytes}
 use Rattle.wire.specs.Maps.{get, meet}

@@ -11,7 +11,7 @@ use Rattle.image.specs.FieldLayout.{name}
 use Rattle.image.specs.Under.{UnderName, under}
 use Rattle.image.specs.Places.{rows_from, Holds}
 use Rattle.nodes.specs.Listed.{list_at, Listed}
-use Rattle.nodes.specs.declared.part.Part.{Part}
+use Rattle.wire.specs.declared.text.Part.{Part}
 use Rattle.lookup.specs.declared.search.Rows.{Rows}
 use Rattle.lookup.specs.declared.search.RowRead.{RowRead}
 

@@ -7,7 +7,7 @@ ghost use Rattle.stack.specs.Stacks.{Stacked, shown};
 ghost use Rattle.layers.specs.Answered.{inode_answered};
 ghost use Rattle.lookup.specs.Children.{EntriesAt, BaseEntries};
 
-use nodes::part::Part;
+use wire::text::Part;
 use std::cmp::Ordering;
 use crate::search::{find_name, read_row, rows_of};
 use deltas::delta::{EntryDelta, NodeDelta};

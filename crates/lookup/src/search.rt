@@ -1,13 +1,12 @@
 // Looking for a name in a list by name, where the list stands.
 ghost use Rattle.lookup.specs.Search.{IsList, ListRows, RowAt, ReadsRow, Finds};
 
+use wire::text::{Part, read_text};
 use std::cmp::Ordering;
 use image::name::{Under, pass_under};
-use nodes::part::Part;
 use wire::cursor::{Cursor, place_at};
 use wire::number::read_number;
 use wire::order::compare_part;
-use wire::text::read_text;
 
 // Rows of a list: the place of the first, and how many there are.
 #[derive(Clone, Copy)]

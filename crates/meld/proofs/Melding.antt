@@ -18,7 +18,7 @@ use Rattle.image.specs.Masks.{maybe}
 use Rattle.image.specs.FieldLayout.{name, value}
 use Rattle.image.specs.RecordLayout.{changes}
 use Rattle.nodes.specs.Listed.{list_at, list_of, Listed, ListedIf}
-use Rattle.nodes.specs.declared.part.Part.{Part}
+use Rattle.wire.specs.declared.text.Part.{Part}
 use Rattle.writers.proofs.Writing.{list_written}
 use Rattle.records.proofs.Records.{list-bytes}
 use Rattle.rules.specs.Changes.{merge_changes}

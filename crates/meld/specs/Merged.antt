@@ -1,5 +1,5 @@
 -- Two lists of attribute changes merged. Document 01: "attribute by attribute".
-use Rattle.nodes.specs.declared.part.Part.{Part}
+use Rattle.wire.specs.declared.text.Part.{Part}
 use Rattle.std.specs.Prelude.{◌≡◌, true, false, cond, List, [], ◌∷◌, ◌++◌, ℕ, zero, suc, ◌+◌, ◌≤◌, ◌<◌, length, drop, None, Option, Some}
 use Rattle.wire.specs.Parse.{Parsed, fault, got}
 use Rattle.wire.specs.Order.{Order}

@@ -4,7 +4,7 @@ ghost use Rattle.wire.specs.Lists.{last_count};
 ghost use Rattle.wire.specs.Put.{Put};
 ghost use Rattle.meld.specs.Merged.{Leads, TurnIs, own_turn, turn_bytes, PutsRows, merged_bytes, changes_anew};
 
-use nodes::part::Part;
+use wire::text::Part;
 use std::cmp::Ordering;
 use crate::row::{Left, Row, first_row, rows_at};
 use change::copy::put_between;

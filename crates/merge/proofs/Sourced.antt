@@ -25,7 +25,7 @@ use Rattle.image.specs.Under.{UnderName, under}
 use Rattle.image.specs.declared.name.Under.{Under}
 use Rattle.image.specs.declared.name.Under.TheVariants as U
 use Rattle.nodes.specs.Options.{text_at, text_of}
-use Rattle.nodes.specs.declared.part.Part.{Part}
+use Rattle.wire.specs.declared.text.Part.{Part}
 use Rattle.nodes.proofs.Values.{reads_made}
 use Rattle.rules.specs.Changes.{map_if}
 use Rattle.merge.specs.declared.source.Source.{Source}

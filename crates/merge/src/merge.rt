@@ -6,7 +6,7 @@ use std::cmp::Ordering;
 use crate::slots::{set_source, source_of};
 use crate::source::{Head, Source, head_of, no_head, source_at};
 use image::name::Under;
-use nodes::part::Part;
+use wire::text::Part;
 use wire::order::compare_part;
 use wire::part::part;
 

@@ -4,12 +4,11 @@ ghost use Rattle.wire.specs.Reading.{cursor_in};
 ghost use Rattle.image.specs.declared.name.Under.TheVariants as U;
 ghost use Rattle.merge.specs.Sources.{is_set, value_of, Chooses, Ended, NoRow, HeadOf, ListOf};
 
+use wire::text::{Part, read_text};
 use image::name::Under;
 use nodes::option::read_maybe_text;
-use nodes::part::Part;
 use wire::cursor::Cursor;
 use wire::number::read_number;
-use wire::text::read_text;
 
 // A list by name, of which `left` rows stand from `at` on.
 #[derive(Clone, Copy)]

@@ -4,7 +4,8 @@ ghost use Rattle.nodes.specs.Attrs.{attr_delta, ReadsAttr, ReadsLater, ReadsChan
 
 use wire::time::Time;
 use crate::option::{read_time_if, read_u32_if};
-use crate::part::{Part, read_names};
+use wire::text::Part;
+use crate::part::read_names;
 use image::name::Under;
 use wire::fault::Fault;
 use wire::number::read_number;

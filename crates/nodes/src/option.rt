@@ -17,7 +17,7 @@ use wire::time::{Time, read_time};
 #[tactic(auto, using(crate::proofs::Values::options))]
 pub fn read_u32_if(img: &[u8], at: usize, bit: u64) -> Result<(Option<u32>, usize), Fault>
     requires { (bit ≤ 1) × (at ≤ length img.now) }
-    ensures { Reads img.now (opt-read (number_read 4294967295) bit) at (meant result) }
+    ensures { Reads img.now (opt-read (number_read 4294967295) bit) at result }
 {
     if bit == 0 {
         return Ok((None, at));
@@ -30,7 +30,7 @@ pub fn read_u32_if(img: &[u8], at: usize, bit: u64) -> Result<(Option<u32>, usiz
 #[tactic(auto, using(crate::proofs::Values::options))]
 pub fn read_time_if(img: &[u8], at: usize, bit: u64) -> Result<(Option<Time>, usize), Fault>
     requires { (bit ≤ 1) × (at ≤ length img.now) }
-    ensures { Reads img.now (opt-read time.read bit) at (meant result) }
+    ensures { Reads img.now (opt-read time.read bit) at result }
 {
     if bit == 0 {
         return Ok((None, at));
@@ -42,7 +42,7 @@ pub fn read_time_if(img: &[u8], at: usize, bit: u64) -> Result<(Option<Time>, us
 // 0, or 1 and a number of at most `most`, and the place after it.
 #[tactic(auto, using(crate::proofs::Values::options))]
 pub fn read_maybe_number(img: &[u8], at: usize, most: u64) -> Result<(Option<u64>, usize), Fault>
-    ensures { Reads img.now (maybe_read (number_read most)) at (meant result) }
+    ensures { Reads img.now (maybe_read (number_read most)) at result }
 {
     let (bit, here) = read_number(img, at, 1)?;
     if bit == 0 {

@@ -1,6 +1,6 @@
 -- The live directory delta of an inode. Document 01: "Add entry, remove entry and set parent act on the live directory delta, making an empty
 -- one if there is no live record; on a live record of another sort they do nothing."
-use Rattle.nodes.specs.declared.part.Part.{Part}
+use Rattle.wire.specs.declared.text.Part.{Part}
 use Rattle.std.specs.Prelude.{◌≡◌, List, ℕ, None, Option, Some}
 use Rattle.wire.specs.Orders.{by_bytes}
 use Rattle.wire.specs.Maps.{Map, empty}

@@ -2,7 +2,7 @@
 ghost use Rattle.std.specs.Prelude.{◌≡◌};
 ghost use Rattle.overlay.specs.Directories.{directory_of, node_directory, whole_of, bare_delta, LivesAt};
 
-use nodes::part::Part;
+use wire::text::Part;
 use deltas::delta::{DirectoryDelta, EntryDelta, NodeDelta, read_entry_delta};
 use nodes::attr::AttrDelta;
 use wire::cursor::Cursor;

@@ -5,7 +5,7 @@ ghost use Rattle.wire.specs.Combinators.{opt_write};
 ghost use Rattle.image.specs.FieldLayout.{inode as inodeCodec};
 ghost use Rattle.overlay.specs.NewRecords.{directory_bytes, bare_bytes, change_bytes, updated_bytes, lead_bytes, edit_bytes};
 
-use nodes::part::Part;
+use wire::text::Part;
 use crate::list::{NewList, put_list};
 use change::copy::put_between;
 use meld::merged::put_changes;

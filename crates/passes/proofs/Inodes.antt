@@ -6,7 +6,7 @@ use mathlib.Core.List.{List}
 use Prim.Native.Nat.{ℕ, zero, suc, ◌-◌, ◌≤◌, ◌<◌}
 use native.Mathlib.Omega.{arith}
 use Rattle.std.specs.Prelude.{Result, Ok, Err, Some, None, Option}
-use Rattle.std.specs.Prelude.{Option as Maybe}
+use Rattle.std.specs.Prelude.{Option}
 use Rattle.std.specs.Option.{option_or}
 use Rattle.std.specs.Bool.{then_some}
 use lib.Dec.{eqb}
@@ -63,13 +63,13 @@ module _ {A : Type 0} (value : Codec A) (img : List ℕ) (sought : ℕ) where
   place-step (suc n) s h e d = let z : suc n - 1 ≡ n = omega arith in rw (e, d, z)
 
   -- the place found, or the one still to be found
-  pub record Seeking (start n : ℕ) (place : Maybe ℕ) (here left : ℕ) : Type 0 where
+  pub record Seeking (start n : ℕ) (place : Option ℕ) (here left : ℕ) : Type 0 where
     pub same : first place (placed left (drop here img)) ≡ placed n (drop start img)
 
   pub seeking-start : {start n left : ℕ} → left ≡ n → Seeking start n None start left
   seeking-start e = rw e (record { same = refl })
 
-  chosen : (place : Maybe ℕ) (m : ℕ) (b : Bool) (j : ℕ) (rest : Option ℕ) → eqb j sought ≡ b
+  chosen : (place : Option ℕ) (m : ℕ) (b : Bool) (j : ℕ) (rest : Option ℕ) → eqb j sought ≡ b
       → first place (choose (cmp_n sought j) (Some m) rest) ≡ first (option_or place (then_some b m)) rest
   chosen (Some p) m b j rest e = refl
   chosen None m true j rest e =
@@ -82,8 +82,8 @@ module _ {A : Type 0} (value : Codec A) (img : List ℕ) (sought : ℕ) where
       go Equal k = absurd (eqb-false j sought e (sym k))
       go Greater k = refl
 
-  module _ {start n here left : ℕ} {place : Maybe ℕ} (w : Seeking start n place here left) where
-    pub seeking-on : (prev : Option ℕ) {j m q rest : ℕ} {here_found found : Maybe ℕ} → 0 < left → Reads img (only (after by_number prev) inode).read here (Ok (j, m))
+  module _ {start n here left : ℕ} {place : Option ℕ} (w : Seeking start n place here left) where
+    pub seeking-on : (prev : Option ℕ) {j m q rest : ℕ} {here_found found : Option ℕ} → 0 < left → Reads img (only (after by_number prev) inode).read here (Ok (j, m))
         → Ends img value.read m (Ok q) → here_found ≡ then_some (eqb j sought) m → found ≡ option_or place here_found → rest ≡ left - 1 → Seeking start n found q rest
     seeking-on prev {j} {m} {q} h a g d f z =
         let u = ends-got g in
@@ -98,7 +98,7 @@ module _ {A : Type 0} (value : Codec A) (img : List ℕ) (sought : ℕ) where
     unfolding place_under
     none_left zero h = go place
       where
-        go : (p : Maybe ℕ) → first p None ≡ p
+        go : (p : Option ℕ) → first p None ≡ p
         go (Some x) = refl
         go None = refl
     none_left (suc k) h = absurd (omega arith)
@@ -110,24 +110,24 @@ module _ {A : Type 0} (value : Codec A) (img : List ℕ) (sought : ℕ) where
 
 module _ {img : List ℕ} {h : Held} {sought : ℕ} where
   module _ {at : ℕ} {o : Result (ℕ × ℕ) Fault} (c : Reads img (number_read last_count) at o) where
-    pub finds-list : {n first : ℕ} {r : Result (Maybe ℕ × ℕ) Fault} → o ≡ Ok (n, first) → FindsRows img h sought first n r → Finds img h sought at r
+    pub finds-list : {n first : ℕ} {r : Result (Option ℕ × ℕ) Fault} → o ≡ Ok (n, first) → FindsRows img h sought first n r → Finds img h sought at r
     finds-list {r = r} d g = record {
       ends = ends-list by_number inode (held h) last_count refl inode-one (held-one h) c d g.ends;
       found = let e = rw d at c in rw (e.same) g.found;
     }
 
-    pub finds-uncounted : {r : Result (Maybe ℕ × ℕ) Fault} {f : Fault} → o ≡ Err f → r ≡ Err f → Finds img h sought at r
+    pub finds-uncounted : {r : Result (Option ℕ × ℕ) Fault} {f : Fault} → o ≡ Err f → r ≡ Err f → Finds img h sought at r
     finds-uncounted d e = rw e (record { ends = ends-unlisted by_number inode (held h) last_count refl inode-one (held-one h) c d refl; found = tt })
 
   module _ {first n here left : ℕ} {prev : Option ℕ} (p : Passed by_number inode (held h) img first n prev here left) where
-    pub finds-all : {place : Maybe ℕ} → Seeking (held h) img sought first n place here left → left ≤ 0 → FindsRows img h sought first n (Ok (place, here))
+    pub finds-all : {place : Option ℕ} → Seeking (held h) img sought first n place here left → left ≤ 0 → FindsRows img h sought first n (Ok (place, here))
     finds-all s l = record { ends = passed-all p l; found = seeking-end (held h) img sought s l }
 
     module _ (l : 0 < left) {o : Result (ℕ × ℕ) Fault} (a : Reads img (only (after by_number prev) inode).read here o) where
-      pub finds-unkeyed : {r : Result (Maybe ℕ × ℕ) Fault} {f : Fault} → o ≡ Err f → r ≡ Err f → FindsRows img h sought first n r
+      pub finds-unkeyed : {r : Result (Option ℕ × ℕ) Fault} {f : Fault} → o ≡ Err f → r ≡ Err f → FindsRows img h sought first n r
       finds-unkeyed d e = rw e (record { ends = passed-unkeyed p l a d refl; found = tt })
 
-      pub finds-stop : {k m : ℕ} → o ≡ Ok (k, m) → {u : Result ℕ Fault} → Ends img (held h).read m u → {r : Result (Maybe ℕ × ℕ) Fault} {f : Fault} → u ≡ Err f → r ≡ Err f
+      pub finds-stop : {k m : ℕ} → o ≡ Ok (k, m) → {u : Result ℕ Fault} → Ends img (held h).read m u → {r : Result (Option ℕ × ℕ) Fault} {f : Fault} → u ≡ Err f → r ≡ Err f
           → FindsRows img h sought first n r
       finds-stop d b c e = rw e (record { ends = passed-stop p l a d b c refl; found = tt })
 

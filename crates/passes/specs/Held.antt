@@ -1,6 +1,6 @@
 -- The two sorts of lists by inode, and what finding an inode in one answers.
 use Rattle.std.specs.Prelude.{◌≡◌, refl, List, ℕ, length, drop, Result, Ok, Err, Some, None, Option}
-use Rattle.std.specs.Prelude.{Option as Maybe}
+use Rattle.std.specs.Prelude.{Option}
 use Rattle.wire.specs.declared.fault.Fault.{Fault}
 use Rattle.wire.specs.Codec.{Codec}
 use Rattle.wire.specs.Orders.{by_number}
@@ -22,26 +22,22 @@ abbrev pub held : (h : Held) → Codec (HeldUnder h)
 held H.Node = node
 held H.Record = layer_record
 
-abbrev pub place_of : Maybe ℕ → Option ℕ
-None = None
-(Some p) = Some p
-
 -- where the list ends
-abbrev pub end_of : Result (Maybe ℕ × ℕ) Fault → Result ℕ Fault
+abbrev pub end_of : Result (Option ℕ × ℕ) Fault → Result ℕ Fault
 end_of (Ok r) = Ok r.1
 end_of (Err f) = Err f
 
 -- if the list was read to its end, the place found is this one
-abbrev pub Found : Result (Maybe ℕ × ℕ) Fault → Option ℕ → Type 0
+abbrev pub Found : Result (Option ℕ × ℕ) Fault → Option ℕ → Type 0
 Found (Ok r) o = r.0 ≡ o
 Found (Err f) o = Unit {0}
 
 -- a list by inode is passed, and the place of what stands under one inode is found on the way
-pub record Finds (img : List ℕ) (h : Held) (sought at : ℕ) (result : Result (Maybe ℕ × ℕ) Fault) : Type 0 where
+pub record Finds (img : List ℕ) (h : Held) (sought at : ℕ) (result : Result (Option ℕ × ℕ) Fault) : Type 0 where
   pub ends : Ends img (rising by_number inodeCodec (held h) last_count refl).read at (end_of result)
   pub found : Found result (place_in by_number inodeCodec (held h) img sought at)
 
 -- the same of n rows from `first` on
-pub record FindsRows (img : List ℕ) (h : Held) (sought first n : ℕ) (result : Result (Maybe ℕ × ℕ) Fault) : Type 0 where
+pub record FindsRows (img : List ℕ) (h : Held) (sought first n : ℕ) (result : Result (Option ℕ × ℕ) Fault) : Type 0 where
   pub ends : Ends img (rows_from by_number inodeCodec (held h) n None) first (end_of result)
   pub found : Found result (place_under by_number inodeCodec (held h) (length img) sought n (drop first img))

@@ -5,7 +5,7 @@ ghost use Rattle.wire.specs.Orders.{by_number};
 ghost use Rattle.wire.specs.Lists.{after};
 ghost use Rattle.wire.specs.Reading.{Reads};
 ghost use Rattle.image.specs.FieldLayout.{inode};
-ghost use Rattle.image.specs.Places.{Ends, inode_before};
+ghost use Rattle.image.specs.Places.{Ends};
 ghost use Rattle.passes.specs.Held.{held, Finds, FindsRows};
 
 use crate::node::pass_node;
@@ -23,7 +23,7 @@ pub enum Held {
 
 // The inode at `at`, which is after the one before it, if there is one, and the place after it.
 pub fn inode_after(img: &[u8], at: usize, before: Option<u64>) -> Result<(u64, usize), Fault>
-    ensures { Reads img.now (only (after by_number (inode_before before)) inode).read at result }
+    ensures { Reads img.now (only (after by_number before) inode).read at result }
 {
     let (number, next) = read_number(img, at, u64::MAX)?;
     let Some(last) = before else {

@@ -6,7 +6,7 @@ ghost use Rattle.deltas.specs.Deltas.{change_meant};
 ghost use Rattle.nodes.specs.Nodes.{body_meant};
 ghost use Rattle.records.specs.Records.{list_bytes, directory_bytes, change_bytes, entry_bytes, body_bytes, node_bytes};
 
-use nodes::part::Part;
+use wire::text::Part;
 use deltas::delta::{DirectoryDelta, EntryDelta, NodeDelta, attr_delta};
 use nodes::node::{Node, NodeKind};
 use wire::number::put_number;

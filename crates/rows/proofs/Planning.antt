@@ -20,7 +20,7 @@ use Rattle.rows.specs.Listings.{lists_of, rows_listed}
 use Rattle.rows.proofs.Decide.{gathered-rows}
 use Rattle.rows.specs.Plans.{entry_of, room_for, answer_of, NoRows, Fits, Plans, count_in, plan_count, plan_row, plan_answer, Advances, Filled}
 use Rattle.rows.specs.declared.listing.Listing.{Listing}
-use Rattle.nodes.specs.declared.part.Part.{Part}
+use Rattle.wire.specs.declared.text.Part.{Part}
 use Rattle.merge.specs.declared.merge.Sources.{Sources}
 use Rattle.merge.specs.declared.merge.Merge.{Merge}
 use Rattle.merge.specs.declared.merge.Counted.{Counted}

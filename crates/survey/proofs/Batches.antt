@@ -3,7 +3,7 @@
 use mathlib.Core.Path.{◌≡◌, refl, sym, ap, ◌∙◌, subst}
 use mathlib.Core.List.{List, [], ◌++◌, append_assoc, append-nil}
 use Rattle.std.specs.Prelude.{Result, Ok, Err, Some, None, Option}
-use Rattle.std.specs.Prelude.{Option as Maybe}
+use Rattle.std.specs.Prelude.{Option}
 use Prim.Native.Nat.{ℕ, zero, suc, ◌+◌, ◌-◌, ◌≤◌, ◌<◌}
 use native.Mathlib.Omega.{arith}
 use lib.ListN.{length, drop}
@@ -18,7 +18,7 @@ use Rattle.wire.proofs.Readers.{handed, number-most, read-in}
 use Rattle.image.specs.FieldLayout.{inode}
 use Rattle.image.specs.RecordLayout.{records}
 use Rattle.image.specs.StoreLayout.{BatchRest, batch_rest}
-use Rattle.image.specs.Places.{Ends, inode_before, rows_from}
+use Rattle.image.specs.Places.{Ends, rows_from}
 use Rattle.passes.specs.Held.{Finds}
 use Rattle.survey.specs.Gathering.{list_if, deltas_of, head_rest, batch_head, record_place, batch_places}
 use Rattle.survey.specs.Gathering.{Bare, Pushed, Gathers, GathersQueue}
@@ -58,14 +58,14 @@ module _ {img : List ℕ} {m : ℕ} {u : Result ℕ Fault} (b : Ends img head_re
   rest-ends c g = rest (ends-then records.read (λ h l. (h.0, (h.1.0, (h.1.1.0, (h.1.1.1, l))))) b c g)
 
 -- The loop over the batches has come to `here`, where `left` are left after the id `last`; `now` is gathered of them.
-pub record Going (img : List ℕ) (sought first n : ℕ) (base : Maybe ℕ) (last : Maybe ℕ) (here left : ℕ) (now : InodeLayerStack) : Type 0 where
-  pub rows : Passed by_number inode batch_rest img first n (inode_before last) here left
+pub record Going (img : List ℕ) (sought first n : ℕ) (base : Option ℕ) (last : Option ℕ) (here left : ℕ) (now : InodeLayerStack) : Type 0 where
+  pub rows : Passed by_number inode batch_rest img first n last here left
   pub places : deltas_of now ++ batch_places (length img) sought left (drop here img) ≡ batch_places (length img) sought n (drop first img)
   pub few : now.count + left ≤ n
   pub wide : length now.deltas ≡ 17
   pub base_kept : now.base ≡ base
 
-pub going_start : {img : List ℕ} {sought first n left : ℕ} {base : Maybe ℕ} {now : InodeLayerStack} → first ≤ length img → Bare base now → left ≡ n
+pub going_start : {img : List ℕ} {sought first n left : ℕ} {base : Option ℕ} {now : InodeLayerStack} → first ≤ length img → Bare base now → left ≡ n
     → Going img sought first n base None first left now
 going_start h b e = record {
   rows = passed_start h e;
@@ -75,7 +75,7 @@ going_start h b e = record {
   base_kept = b.base_kept;
 }
 
-module _ {img : List ℕ} {sought first n here left : ℕ} {base last : Maybe ℕ} {now : InodeLayerStack} (w : Going img sought first n base last here left now) where
+module _ {img : List ℕ} {sought first n here left : ℕ} {base last : Option ℕ} {now : InodeLayerStack} (w : Going img sought first n base last here left now) where
   pub going-all : left ≤ 0 → Gathers img sought first n base (Ok (record { stack = now; last = last }, here))
   unfolding batch_places
   going-all h = record {
@@ -93,7 +93,7 @@ module _ {img : List ℕ} {sought first n here left : ℕ} {base last : Maybe �
       none-places zero h = refl
       none-places (suc k) h = absurd (omega arith)
 
-  module _ (h : 0 < left) {o : Result (ℕ × ℕ) Fault} (a : Reads img (only (after by_number (inode_before last)) inode).read here o) where
+  module _ (h : 0 < left) {o : Result (ℕ × ℕ) Fault} (a : Reads img (only (after by_number last) inode).read here o) where
     -- the id stops
     pub going-unkeyed : {f : Fault} {r : Result (Batches × ℕ) Fault} → o ≡ Err f → r ≡ Err f → Gathers img sought first n base r
     going-unkeyed d e = rw e (record { ends = passed-unkeyed w.rows h a d refl; gathered = tt })
@@ -103,17 +103,17 @@ module _ {img : List ℕ} {sought first n here left : ℕ} {base last : Maybe �
       pub going-headless : {f : Fault} {r : Result (Batches × ℕ) Fault} → u ≡ Err f → r ≡ Err f → Gathers img sought first n base r
       going-headless c e = rw e (record { ends = passed-stop w.rows h a d (rest-stop b c) refl refl; gathered = tt })
 
-      module _ {k : ℕ} (c : u ≡ Ok k) {v : Result (Maybe ℕ × ℕ) Fault} (f : Finds img H.Record sought k v) where
+      module _ {k : ℕ} (c : u ≡ Ok k) {v : Result (Option ℕ × ℕ) Fault} (f : Finds img H.Record sought k v) where
         -- the records stop
         pub going-stop : {y : Fault} {r : Result (Batches × ℕ) Fault} → v ≡ Err y → r ≡ Err y → Gathers img sought first n base r
         going-stop z e = let g = rw z at f in rw e (record { ends = passed-stop w.rows h a d (rest-ends b c g.ends) refl refl; gathered = tt })
 
-        pub going_on : {place : Maybe ℕ} {q left2 : ℕ} {new : InodeLayerStack} → v ≡ Ok (place, q) → Pushed now place new → left2 ≡ left - 1
+        pub going_on : {place : Option ℕ} {q left2 : ℕ} {new : InodeLayerStack} → v ≡ Ok (place, q) → Pushed now place new → left2 ≡ left - 1
             → Going img sought first n base (Some j) q left2 new
         going_on {place} z p e =
             let g = rw z at f in
             let i = rw d at a in
-            let key : Ends img inode.read here (Ok m) = ends-read {o = Ok (j, m)} (record { same = key-read (inode_before last) (drop here img) i.same; within = i.within }) refl in
+            let key : Ends img inode.read here (Ok m) = ends-read {o = Ok (j, m)} (record { same = key-read last (drop here img) i.same; within = i.within }) refl in
             let head : Ends img batch_head.read here (Ok k) = ends-then head_rest.read (λ a b. (a, b)) key refl (rw c at b) in
             rw e (record {
               rows = passed_on w.rows h a d (rest-ends b c g.ends) refl refl;
@@ -125,7 +125,7 @@ module _ {img : List ℕ} {sought first n here left : ℕ} {base last : Maybe �
 
 -- ---- the whole list, its count first
 
-module _ {img : List ℕ} {sought at : ℕ} {base : Maybe ℕ} {o : Result (ℕ × ℕ) Fault} (h : Reads img (number_read 16) at o) where
+module _ {img : List ℕ} {sought at : ℕ} {base : Option ℕ} {o : Result (ℕ × ℕ) Fault} (h : Reads img (number_read 16) at o) where
   pub queue-stop : {f : Fault} {r : Result (Batches × ℕ) Fault} → o ≡ Err f → r ≡ Err f → GathersQueue img sought at base r
   queue-stop d e = rw e (record { ends = ends-unchosen (λ n s. rows_from by_number inode batch_rest n None s) h d refl; gathered = tt })
 

@@ -12,7 +12,7 @@ use borrow.Author.Tests.{lt-ltb, le-ltb, ltb-false}
 use Rattle.wire.specs.declared.fault.Fault.{Fault}
 use Rattle.wire.specs.declared.fault.Fault.TheVariants.{Malformed}
 use Rattle.std.specs.Prelude.{Result, Ok, Err, Some, None, Option}
-use Rattle.std.specs.Prelude.{Option as Maybe}
+use Rattle.std.specs.Prelude.{Option}
 use Rattle.std.specs.declared.cmp.Ordering.TheVariants.{Less, Equal, Greater}
 use Rattle.wire.specs.Parse.{Parsed, fault, got, bind, check}
 use Rattle.wire.specs.Codec.{Codec, decode}
@@ -26,7 +26,7 @@ use Rattle.image.specs.FieldLayout.{inode, word}
 use Rattle.image.specs.NodeLayout.{base}
 use Rattle.image.specs.RecordLayout.{records}
 use Rattle.image.specs.StoreLayout.{BatchRest, batch_rest, batch_of, batch_after, id_of, batches, ids_below, next_id, store_of, store}
-use Rattle.image.specs.Places.{passed, Ends, rows_from, last_key, last_of, inode_before}
+use Rattle.image.specs.Places.{passed, Ends, rows_from, last_key, last_of}
 use Rattle.survey.specs.Gathering.{queue_rows, Pushed, GathersQueue}
 use Rattle.passes.specs.Held.{Finds}
 use Rattle.survey.specs.Survey.{tail_after, Surveyed, SurveyOf}
@@ -179,7 +179,7 @@ module _ {img : List ℕ} where
 
 -- ---- the whole pass, and where it stops
 
-module _ {img : List ℕ} {sought : ℕ} {o : Result (Maybe ℕ × ℕ) Fault} (b : Finds img H.Node sought 0 o) where
+module _ {img : List ℕ} {sought : ℕ} {o : Result (Option ℕ × ℕ) Fault} (b : Finds img H.Node sought 0 o) where
   in-store : {r : Result ℕ Fault} → Ends img (base then seq batches rest_of).read 0 r → Ends img store.read 0 r
   unfolding store
   in-store h = ends-made store_of h
@@ -190,23 +190,23 @@ module _ {img : List ℕ} {sought : ℕ} {o : Result (Maybe ℕ × ℕ) Fault} (
   pub surveys-base : {f : Fault} {r : Result Survey Fault} → o ≡ Err f → r ≡ Err f → SurveyOf img sought r
   surveys-base d e = let h = rw d at b in stopped e (in-store (ends-stop _ h.ends refl refl))
 
-  module _ {place : Maybe ℕ} {c1 : ℕ} (d : o ≡ Ok (place, c1)) {u : Result (Batches × ℕ) Fault} (g : GathersQueue img sought c1 place u) where
+  module _ {place : Option ℕ} {c1 : ℕ} (d : o ≡ Ok (place, c1)) {u : Result (Batches × ℕ) Fault} (g : GathersQueue img sought c1 place u) where
     after-base : {r : Result ℕ Fault} → Ends img (seq batches rest_of).read c1 r → Ends img store.read 0 r
     after-base k = let h = rw d at b in in-store (ends-then (seq batches rest_of).read (λ a b. (a, b)) h.ends refl k)
 
     pub surveys-queue : {f : Fault} {r : Result Survey Fault} → u ≡ Err f → r ≡ Err f → SurveyOf img sought r
     surveys-queue z e = let h = rw z at g in stopped e (after-base (ends-stop _ (ends-batches h.ends) refl refl))
 
-    module _ {queue : Batches} {c2 : ℕ} (z : u ≡ Ok (queue, c2)) {v : Result (Maybe ℕ × ℕ) Fault} (l : Finds img H.Record sought c2 v) where
-      after-queue : {r : Result ℕ Fault} → Ends img (records then tail_after (inode_before queue.last)).read c2 r → Ends img store.read 0 r
+    module _ {queue : Batches} {c2 : ℕ} (z : u ≡ Ok (queue, c2)) {v : Result (Option ℕ × ℕ) Fault} (l : Finds img H.Record sought c2 v) where
+      after-queue : {r : Result ℕ Fault} → Ends img (records then tail_after queue.last).read c2 r → Ends img store.read 0 r
       after-queue k = let h = rw z at g in after-base (ends-queue h.ends h.gathered.last k)
 
       pub surveys-live : {f : Fault} {r : Result Survey Fault} → v ≡ Err f → r ≡ Err f → SurveyOf img sought r
       surveys-live y e = let h = rw y at l in stopped e (after-queue (ends-stop _ h.ends refl refl))
 
-      module _ {top : Maybe ℕ} {c3 : ℕ} (y : v ≡ Ok (top, c3)) {w : Result ℕ Fault} (t : Ends img (tail_after (inode_before queue.last)).read c3 w) where
+      module _ {top : Option ℕ} {c3 : ℕ} (y : v ≡ Ok (top, c3)) {w : Result ℕ Fault} (t : Ends img (tail_after queue.last).read c3 w) where
         after-live : {r : Result ℕ Fault} → w ≡ r → Ends img store.read 0 r
-        after-live x = let h = rw y at l in after-queue (ends-then (tail_after (inode_before queue.last)).read (λ a b. (a, b)) h.ends refl (rw x at t))
+        after-live x = let h = rw y at l in after-queue (ends-then (tail_after queue.last).read (λ a b. (a, b)) h.ends refl (rw x at t))
 
         pub surveys-tail : {f : Fault} {r : Result Survey Fault} → w ≡ Err f → r ≡ Err f → SurveyOf img sought r
         surveys-tail x e = stopped e (after-live x)
@@ -223,7 +223,7 @@ module _ {img : List ℕ} {sought : ℕ} {o : Result (Maybe ℕ × ℕ) Fault} (
                 base = hb.ends;
                 batches = ends-batches hg.ends;
                 live = hl.ends;
-                node = ap (p.base ∙ hg.gathered.base_kept) ∙ hb.found;
+                node = (p.base ∙ hg.gathered.base_kept) ∙ hb.found;
                 deltas = rw (p.places, hg.gathered.places, hl.found);
               };
               few = omega (arith, p.few, hg.gathered.few);

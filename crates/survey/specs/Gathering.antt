@@ -1,7 +1,7 @@
 -- What the pass over an image gathers of one inode: the place of its node, and of its record in each batch, front first, and in live.
 use Rattle.std.specs.Prelude.{◌≡◌, refl, List, [], ◌∷◌, ◌++◌, ℕ, zero, suc, ◌+◌, ◌≤◌, length, take, drop, None, Option, Some}
 use Rattle.std.specs.Prelude.{Result, Ok, Err}
-use Rattle.std.specs.Prelude.{Option as Maybe}
+use Rattle.std.specs.Prelude.{Option}
 use Rattle.wire.specs.declared.fault.Fault.{Fault}
 use Rattle.wire.specs.Parse.{Parsed, fault, got}
 use Rattle.wire.specs.Codec.{Codec}
@@ -13,7 +13,7 @@ use Rattle.wire.specs.Lists.{rows, last_count}
 use Rattle.image.specs.FieldLayout.{inode, word, moment}
 use Rattle.image.specs.RecordLayout.{layer_record, records}
 use Rattle.image.specs.StoreLayout.{BatchRest, batch_rest}
-use Rattle.image.specs.Places.{Ends, if_read, place_under, rows_from, last_of, inode_before}
+use Rattle.image.specs.Places.{Ends, if_read, place_under, rows_from, last_of}
 use Rattle.survey.specs.declared.batch.InodeLayerStack.{InodeLayerStack}
 use Rattle.survey.specs.declared.batch.Batches.{Batches}
 
@@ -51,7 +51,7 @@ batch_places size sought (suc n) s =
     or_none (rest_of (batch_head.read s)) (λ r. list_if (record_place size sought r) ++ or_none (rest_of (records.read r)) (λ q. batch_places size sought n q))
 
 -- no record
-pub record Bare (base : Maybe ℕ) (new : InodeLayerStack) : Type 0 where
+pub record Bare (base : Option ℕ) (new : InodeLayerStack) : Type 0 where
   pub few : new.count ≡ 0
   pub wide : length new.deltas ≡ 17
   pub base_kept : new.base ≡ base
@@ -77,19 +77,19 @@ queue_end (Ok r) = Ok r.1
 queue_end (Err f) = Err f
 
 -- what was gathered of n batches, from `first` on, which end at `end`: the last id, and the places over the node found in the base
-pub record Gathered (img : List ℕ) (sought first n : ℕ) (base : Maybe ℕ) (b : Batches) (end : ℕ) : Type 0 where
-  pub last : last_of None (rows_from by_number inode batch_rest n None (drop first img)) ≡ got (inode_before b.last) (drop end img)
+pub record Gathered (img : List ℕ) (sought first n : ℕ) (base : Option ℕ) (b : Batches) (end : ℕ) : Type 0 where
+  pub last : last_of None (rows_from by_number inode batch_rest n None (drop first img)) ≡ got b.last (drop end img)
   pub places : deltas_of b.stack ≡ batch_places (length img) sought n (drop first img)
   pub base_kept : b.stack.base ≡ base
   pub few : b.stack.count ≤ n
   pub wide : length b.stack.deltas ≡ 17
 
-abbrev pub gathered_rows : List ℕ → ℕ → ℕ → ℕ → Maybe ℕ → Result (Batches × ℕ) Fault → Type 0
+abbrev pub gathered_rows : List ℕ → ℕ → ℕ → ℕ → Option ℕ → Result (Batches × ℕ) Fault → Type 0
 gathered_rows img sought first n base (Ok r) = Gathered img sought first n base r.0 r.1
 gathered_rows img sought first n base (Err f) = Unit {0}
 
 -- n batches were passed, from `first` on
-pub record Gathers (img : List ℕ) (sought first n : ℕ) (base : Maybe ℕ) (r : Result (Batches × ℕ) Fault) : Type 0 where
+pub record Gathers (img : List ℕ) (sought first n : ℕ) (base : Option ℕ) (r : Result (Batches × ℕ) Fault) : Type 0 where
   pub ends : Ends img (rows_from by_number inode batch_rest n None) first (queue_end r)
   pub gathered : gathered_rows img sought first n base r
 
@@ -98,18 +98,18 @@ abbrev pub queue_places : List ℕ → ℕ → ℕ → List ℕ
 queue_places img sought n = or_none (as_option (number_read 16 (drop n img))) (λ p. batch_places (length img) sought p.0 p.1)
 
 -- what was gathered of the whole list
-pub record GatheredQueue (img : List ℕ) (sought at : ℕ) (base : Maybe ℕ) (b : Batches) (end : ℕ) : Type 0 where
-  pub last : last_of None (queue_rows.read (drop at img)) ≡ got (inode_before b.last) (drop end img)
+pub record GatheredQueue (img : List ℕ) (sought at : ℕ) (base : Option ℕ) (b : Batches) (end : ℕ) : Type 0 where
+  pub last : last_of None (queue_rows.read (drop at img)) ≡ got b.last (drop end img)
   pub places : deltas_of b.stack ≡ queue_places img sought at
   pub base_kept : b.stack.base ≡ base
   pub few : b.stack.count ≤ 16
   pub wide : length b.stack.deltas ≡ 17
 
-abbrev pub gathered_queue : List ℕ → ℕ → ℕ → Maybe ℕ → Result (Batches × ℕ) Fault → Type 0
+abbrev pub gathered_queue : List ℕ → ℕ → ℕ → Option ℕ → Result (Batches × ℕ) Fault → Type 0
 gathered_queue img sought at base (Ok r) = GatheredQueue img sought at base r.0 r.1
 gathered_queue img sought at base (Err f) = Unit {0}
 
 -- the whole list was passed
-pub record GathersQueue (img : List ℕ) (sought at : ℕ) (base : Maybe ℕ) (r : Result (Batches × ℕ) Fault) : Type 0 where
+pub record GathersQueue (img : List ℕ) (sought at : ℕ) (base : Option ℕ) (r : Result (Batches × ℕ) Fault) : Type 0 where
   pub ends : Ends img queue_rows.read at (queue_end r)
   pub gathered : gathered_queue img sought at base r

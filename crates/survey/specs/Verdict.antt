@@ -1,6 +1,6 @@
 -- Document 01: "Always first: 1, image over 65,536 bytes; 2, image not by the layout."
 use Rattle.std.specs.Prelude.{◌≡◌, cond, List, ℕ, ltb, length, Result, Some, None, IfOk, Option}
-use Rattle.std.specs.Prelude.{Option as Maybe}
+use Rattle.std.specs.Prelude.{Option}
 use Rattle.std.specs.Result.{result_err}
 use Rattle.wire.specs.Parse.{Parsed, fault, got}
 use Rattle.image.specs.Meaning.{Store}
@@ -16,21 +16,21 @@ number_of D.TooLong = 1
 number_of D.Broken = 2
 
 -- the number of a verdict, which is a refusal or that there is none
-abbrev pub refusal_of : Maybe Refusal → Option ℕ
+abbrev pub refusal_of : Option Refusal → Option ℕ
 refusal_of None = None
 refusal_of (Some r) = Some (number_of r)
 
 -- the same, 0 for none
-abbrev pub refusal_number : Maybe Refusal → ℕ
+abbrev pub refusal_number : Option Refusal → ℕ
 refusal_number None = 0
 refusal_number (Some r) = number_of r
 
 -- both faults are refusal 2 today (document 02, T-09, parts them)
-abbrev pub judge : Parsed Store → Maybe Refusal
+abbrev pub judge : Parsed Store → Option Refusal
 judge (fault f) = Some D.Broken
 judge (got s r) = None
 
-unfoldable pub verdict_of : List ℕ → Maybe Refusal
+unfoldable pub verdict_of : List ℕ → Option Refusal
 verdict_of img = cond (ltb 65536 (length img)) (Some D.TooLong) (judge (read_image img))
 
 -- the verdict, and the survey where the image is fine

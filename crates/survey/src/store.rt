@@ -1,6 +1,6 @@
 // The one pass over an image.
 ghost use Rattle.std.specs.Prelude.{◌≡◌};
-ghost use Rattle.image.specs.Places.{Ends, inode_before};
+ghost use Rattle.image.specs.Places.{Ends};
 ghost use Rattle.survey.specs.Survey.{tail_after, SurveyOf};
 ghost use Rattle.survey.specs.Verdict.{Judges, number_of};
 ghost use Rattle.survey.specs.declared.store.Refusal.TheVariants.{Broken};
@@ -43,7 +43,7 @@ pub fn survey_store(img: &[u8], sought: u64) -> Result<Survey, Fault>
 // Passes next id, which is above the last id of the queue, if there is one, the staged counts and the request.
 #[tactic(auto, using(image::proofs::Passing::passes))]
 fn pass_tail(img: &[u8], at: usize, last: Option<u64>) -> Result<usize, Fault>
-    ensures { Ends img.now (tail_after (inode_before last)).read at result }
+    ensures { Ends img.now (tail_after last).read at result }
 {
     let (_, bytes) = inode_after(img, at, last)?;
     let operations = pass_number(img, bytes, LAST_WORD)?;

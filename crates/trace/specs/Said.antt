@@ -8,7 +8,7 @@ use Rattle.image.specs.declared.name.Under.TheVariants as U
 use Rattle.survey.specs.declared.batch.InodeLayerStack.{InodeLayerStack}
 use Rattle.rules.specs.Reads.{Read, child}
 use Rattle.nodes.specs.Listed.{list_at}
-use Rattle.nodes.specs.declared.part.Part.{Part}
+use Rattle.wire.specs.declared.text.Part.{Part}
 use Rattle.stack.specs.Stacks.{shown_under, shown}
 use Rattle.trace.specs.declared.said.Said.{Said}
 use Rattle.trace.specs.declared.said.Said.TheVariants.{Nothing, NoChild, Child}

@@ -9,7 +9,7 @@ use deltas::delta::{EntryDelta, NodeDelta};
 use image::name::Under;
 use lookup::search::find_name;
 use nodes::node::NodeKind;
-use nodes::part::Part;
+use wire::text::Part;
 use stack::stack::{base_node, record_at};
 use survey::batch::InodeLayerStack;
 use wire::cursor::Cursor;

@@ -1,7 +1,7 @@
 -- Fields merged into a live delta.
 -- Assumes nothing.
 use Rattle.wire.specs.declared.time.Time.{Time}
-use Rattle.nodes.specs.declared.part.Part.{Part}
+use Rattle.wire.specs.declared.text.Part.{Part}
 use Rattle.std.specs.Prelude.{None, Option, Some}
 use mathlib.Core.Path.{◌≡◌, refl, sym, ap, subst, ◌∙◌}
 use mathlib.Core.List.{List, [], ◌++◌, append_assoc}

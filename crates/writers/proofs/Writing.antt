@@ -16,7 +16,7 @@ use Rattle.wire.specs.Reading.{part, Reads}
 use Rattle.image.specs.declared.name.Under.{Under}
 use Rattle.nodes.specs.Listed.{by_name, list_at, Listed}
 use Rattle.nodes.specs.Options.{text_at}
-use Rattle.nodes.specs.declared.part.Part.{Part}
+use Rattle.wire.specs.declared.text.Part.{Part}
 use Rattle.nodes.proofs.Reading.{reads-length}
 use Rattle.nodes.proofs.OneForm.{by_name-one}
 

@@ -5,7 +5,7 @@ ghost use Rattle.wire.specs.Combinators.{count};
 ghost use Rattle.wire.specs.Put.{Put};
 ghost use Rattle.writers.specs.Writes.{part_bit, later_mask, mask_of, times_bytes, attr_bytes, meta_bytes};
 
-use nodes::part::Part;
+use wire::text::Part;
 use crate::write::{put_option_time, put_option_u32};
 use nodes::attr::AttrDelta;
 use nodes::node::InodeMeta;

@@ -18,7 +18,7 @@ use Rattle.image.specs.Meaning.{Text}
 use Rattle.image.specs.Places.{maybe_read}
 use Rattle.image.specs.Under.{under}
 use Rattle.rules.specs.Reads.{attribute, step_attribute}
-use Rattle.nodes.specs.declared.part.Part.{Part}
+use Rattle.wire.specs.declared.text.Part.{Part}
 use Rattle.nodes.specs.declared.attr.AttrDelta.{AttrDelta}
 use Rattle.deltas.specs.declared.delta.NodeDelta.{NodeDelta}
 use Rattle.deltas.specs.declared.delta.EntryDelta.{EntryDelta}

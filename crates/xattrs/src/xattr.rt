@@ -8,18 +8,17 @@ ghost use Rattle.stack.specs.Stacks.{Stacked, shown, shown_under};
 ghost use Rattle.layers.specs.Answered.{yes_no};
 ghost use Rattle.xattrs.specs.Xattrs.{XattrAt};
 
+use wire::text::{Part, read_text};
 use deltas::delta::{EntryDelta, attr_delta};
 use image::name::Under;
 use layers::answer::YesNo;
 use lookup::search::find_name;
 use nodes::option::read_maybe_text;
-use nodes::part::Part;
 use stack::name::open_named;
 use stack::stack::{base_node, record_at};
 use survey::batch::InodeLayerStack;
 use wire::cursor::Cursor;
 use wire::part::part;
-use wire::text::read_text;
 
 // What a record says of an attribute: that it is set or removed, or nothing.
 #[derive(Clone, Copy)]

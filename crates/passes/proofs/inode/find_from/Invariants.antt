@@ -2,13 +2,12 @@ use Prim.Native.Nat.{◌-◌}
 use Rattle.wire.specs.Orders.{by_number}
 use Rattle.image.specs.FieldLayout.{inode}
 use Rattle.passes.specs.Held.{held}
-use Rattle.image.specs.Places.{inode_before}
 use Rattle.image.proofs.Passing.{Passed}
 use Rattle.passes.proofs.Inodes.{Seeking}
 use Rattle.passes.proofs.inode.find_from.Given as goal
 
 abbrev pub invariant-loop-row : goal.invariant-loop-row
 invariant-loop-row l = record {
-  passed : Passed by_number inode (held l.what) l.img l.first l.count (inode_before l.before) l.here (l.count - l._row);
+  passed : Passed by_number inode (held l.what) l.img l.first l.count l.before l.here (l.count - l._row);
   seeking : Seeking (held l.what) l.img l.sought l.first l.count l.place l.here (l.count - l._row);
 }
