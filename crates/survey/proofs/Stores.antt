@@ -31,9 +31,9 @@ use Rattle.survey.specs.Gathering.{queue_rows, Pushed, GathersQueue}
 use Rattle.passes.specs.Held.{Finds}
 use Rattle.survey.specs.Survey.{tail_after, Surveyed, SurveyOf}
 use Rattle.survey.specs.Verdict.{verdict_of, Judges}
-use Rattle.survey.specs.declared.store.Refusal.{Refusal}
+use Rattle.survey.specs.declared.refusal.Refusal.{Refusal}
 use Rattle.survey.specs.declared.store.Survey.{Survey}
-use Rattle.survey.specs.declared.store.Refusal.TheVariants.{TooLong, Broken}
+use Rattle.survey.specs.declared.refusal.Refusal.TheVariants.{ImageTooLong, ImageBroken}
 use Rattle.passes.specs.declared.inode.Held.TheVariants as H
 use Rattle.survey.specs.declared.batch.InodeLayerStack.{InodeLayerStack}
 use Rattle.survey.specs.declared.batch.Batches.{Batches}
@@ -243,30 +243,30 @@ module _ {img : List ℕ} (short : length img ≤ 65536) where
       let r : store.read img ≡ got g.0 [] = g.1 ∙ ap (got g.0) n in
       rw (le-ltb 65536 (length img) short, r)
 
-  is-longer : {q : ℕ} → Ends img store.read 0 (Ok q) → q < length img → Some Broken ≡ verdict_of img
+  is-longer : {q : ℕ} → Ends img store.read 0 (Ok q) → q < length img → Some ImageBroken ≡ verdict_of img
   unfolding verdict_of decode
   is-longer {q} w h =
       let g = ends-got w in
       let r : store.read img ≡ got g.0 (get_or img q 0 ∷ drop (suc q) img) = g.1 ∙ ap (got g.0) (drop-cons img q 0 h) in
       rw (le-ltb 65536 (length img) short, r)
 
-  is-broken : {f : Fault} → Ends img store.read 0 (Err f) → Some Broken ≡ verdict_of img
+  is-broken : {f : Fault} → Ends img store.read 0 (Err f) → Some ImageBroken ≡ verdict_of img
   unfolding verdict_of decode
   is-broken w =
       let r = ends-fault w in
       rw (le-ltb 65536 (length img) short, r)
 
   module _ {sought : ℕ} {o : Result Survey Fault} (h : SurveyOf img sought o) where
-    pub judged-broken : {f : Fault} {r : Result Survey Refusal} → o ≡ Err f → r ≡ Err Broken → Judges img sought r
+    pub judged-broken : {f : Fault} {r : Result Survey Refusal} → o ≡ Err f → r ≡ Err ImageBroken → Judges img sought r
     judged-broken d e = rw e (record { verdict = is-broken (rw d at h); survey = tt })
 
     module _ {s : Survey} (d : o ≡ Ok s) where
-      pub judged-longer : s.end < length img → Judges img sought (Err Broken)
+      pub judged-longer : s.end < length img → Judges img sought (Err ImageBroken)
       judged-longer l = let g = rw d at h in record { verdict = is-longer g.surveys.ends l; survey = tt }
 
       pub judged-fine : length img ≤ s.end → Judges img sought (Ok s)
       judged-fine l = let g = rw d at h in record { verdict = is-fine g.surveys.ends l; survey = g }
 
-pub judged-long : {img : List ℕ} {sought : ℕ} → 65536 < length img → Judges img sought (Err TooLong)
+pub judged-long : {img : List ℕ} {sought : ℕ} → 65536 < length img → Judges img sought (Err ImageTooLong)
 unfolding verdict_of
 judged-long {img} h = record { verdict = rw (lt-ltb 65536 (length img) h); survey = tt }

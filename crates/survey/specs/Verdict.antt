@@ -1,19 +1,32 @@
 -- Document 01: "Always first: 1, image over 65,536 bytes; 2, image not by the layout."
-use Rattle.std.specs.Prelude.{◌≡◌, cond, List, ℕ, ltb, length, Result, Some, None, IfOk, Option}
-use Rattle.std.specs.Prelude.{Option}
+use Rattle.std.specs.Prelude.{◌≡◌, cond, List, ℕ, ltb, length, Result, Ok, Err, Some, None, IfOk, Option}
 use Rattle.std.specs.Result.{result_err}
 use Rattle.wire.specs.Parse.{Parsed, fault, got}
 use Rattle.image.specs.Meaning.{Store}
 use Rattle.image.specs.RoundTrip.{read_image}
 use Rattle.survey.specs.Survey.{Surveyed}
-use Rattle.survey.specs.declared.store.Refusal.{Refusal}
-use Rattle.survey.specs.declared.store.Refusal.TheVariants as D
+use Rattle.survey.specs.declared.refusal.Refusal.{Refusal}
+use Rattle.survey.specs.declared.refusal.Refusal.TheVariants as D
 use Rattle.survey.specs.declared.store.Survey.{Survey}
 
 -- the number of each refusal
 abbrev pub number_of : Refusal → ℕ
-number_of D.TooLong = 1
-number_of D.Broken = 2
+number_of D.ImageTooLong = 1
+number_of D.ImageBroken = 2
+number_of D.BadName = 3
+number_of D.BadArgument = 4
+number_of D.NoRoom = 5
+number_of D.AtCapacity = 6
+number_of D.LiveEmpty = 7
+number_of D.NoBatch = 8
+number_of D.WrongBatch = 9
+number_of D.CountFull = 10
+number_of D.NoLayer = 11
+
+-- a result with its refusal as a number
+abbrev pub numbered : {A : Type 0} → Result A Refusal → Result A ℕ
+numbered (Ok a) = Ok a
+numbered (Err r) = Err (number_of r)
 
 -- the number of a verdict, which is a refusal or that there is none
 abbrev pub refusal_of : Option Refusal → Option ℕ
@@ -27,11 +40,11 @@ refusal_number (Some r) = number_of r
 
 -- both faults are refusal 2 today (document 02, T-09, parts them)
 abbrev pub judge : Parsed Store → Option Refusal
-judge (fault f) = Some D.Broken
+judge (fault f) = Some D.ImageBroken
 judge (got s r) = None
 
 unfoldable pub verdict_of : List ℕ → Option Refusal
-verdict_of img = cond (ltb 65536 (length img)) (Some D.TooLong) (judge (read_image img))
+verdict_of img = cond (ltb 65536 (length img)) (Some D.ImageTooLong) (judge (read_image img))
 
 -- the verdict, and the survey where the image is fine
 pub record Judges (img : List ℕ) (sought : ℕ) (r : Result Survey Refusal) : Type 0 where

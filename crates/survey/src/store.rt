@@ -2,10 +2,10 @@
 ghost use Rattle.std.specs.Prelude.{◌≡◌};
 ghost use Rattle.image.specs.Places.{Ends};
 ghost use Rattle.survey.specs.Survey.{tail_after, SurveyOf};
-ghost use Rattle.survey.specs.Verdict.{Judges, number_of};
-ghost use Rattle.survey.specs.declared.store.Refusal.TheVariants.{Broken};
+ghost use Rattle.survey.specs.Verdict.{Judges};
 
 use crate::batch::{InodeLayerStack, gather_queue, pushed};
+use crate::refusal::Refusal;
 use image::field::{LAST_WORD, pass_number};
 use passes::inode::{Held, find_inode, inode_after};
 use wire::fault::Fault;
@@ -51,43 +51,17 @@ fn pass_tail(img: &[u8], at: usize, last: Option<u64>) -> Result<usize, Fault>
     pass_number(img, request, 5)
 }
 
-// Why an image may not be used.
-#[derive(Clone, Copy, PartialEq, Eq)]
-pub enum Refusal {
-    TooLong,
-    Broken,
-}
-
-// Bytes that end too soon and bytes that are badly formed are one refusal.
-impl From<Fault> for Refusal {
-    ghost from_gives = { λ _ r. r ≡ Broken };
-
-    fn from(_fault: Fault) -> Refusal {
-        Refusal::Broken
-    }
-}
-
-// The number of the refusal.
-pub fn refusal_number(refusal: Refusal) -> u32
-    ensures { result ≡ number_of refusal }
-{
-    match refusal {
-        Refusal::TooLong => 1,
-        Refusal::Broken => 2,
-    }
-}
-
 // The one pass that every call starts with.
 pub fn read_image(img: &[u8], sought: u64) -> Result<Survey, Refusal>
     ensures { Judges img.now sought result }
 {
     if 65536 < img.len() {
-        return Err(Refusal::TooLong);
+        return Err(Refusal::ImageTooLong);
     }
     let survey = survey_store(img, sought)?;
     let follows = survey.end < img.len();
     if follows {
-        return Err(Refusal::Broken);
+        return Err(Refusal::ImageBroken);
     }
     Ok(survey)
 }
