@@ -116,9 +116,9 @@ module _ {K A : Type 0} (O : Order K) (key : Codec K) (value : Codec A) where
     row-span : Spans img here (key_bytes ++ record_bytes) (here + length (key_bytes ++ record_bytes))
     row-span = span-front (key_bytes ++ record_bytes) (bytes_of m) rows-span
 
-    module _ {o : Result (K × ℕ) Fault} (a : Reads img key.read here o) {x d : K × ℕ} (z : x ≡ result_unwrap_or o d) where
+    module _ {o : Result (K × ℕ) Fault} (a : Reads img key.read here o) {x : K × ℕ} (d : K × ℕ) (z : x ≡ result_unwrap_or o d) where
       key-read : x ≡ (r.0, here + length key_bytes)
-      key-read = value-is (span-reads key (span-front key_bytes record_bytes row-span) c.fit.0.0 a) z
+      key-read = value-is d (span-reads key (span-front key_bytes record_bytes row-span) c.fit.0.0 a) z
 
       key-is : x.0 ≡ r.0
       key-is = ap (λ (x : K × ℕ). x.0) key-read
@@ -126,12 +126,12 @@ module _ {K A : Type 0} (O : Order K) (key : Codec K) (value : Codec A) where
       start-at : x.1 ≡ here + length key_bytes
       start-at = ap (λ (x : K × ℕ). x.1) key-read
 
-      module _ {u : Result ℕ Fault} (p : Ends img value.read x.1 u) {next e : ℕ} (y : next ≡ result_unwrap_or u e) where
+      module _ {u : Result ℕ Fault} (p : Ends img value.read x.1 u) {next : ℕ} (dy : ℕ) (y : next ≡ result_unwrap_or u dy) where
         record-past : Past img (here + length key_bytes) record_bytes (drop (here + length (key_bytes ++ record_bytes)) img) next
         record-past =
             let b = span-back key_bytes record_bytes row-span in
             let q = ends-past value (here + length key_bytes) (omega (arith, b.ends, b.within)) c.fit.0.1 b.is (rw start-at at p) in
-            let n : next ≡ q.0 = value-is q.1 y in
+            let n : next ≡ q.0 = value-is dy q.1 y in
             rw n q.2
 
         row_ends : next ≡ here + length (key_bytes ++ record_bytes)
@@ -150,7 +150,7 @@ module _ {K A : Type 0} (O : Order K) (key : Codec K) (value : Codec A) where
         record-held = (drop next img, rw (start-at, record-past.spans.is) (value.back r.1 (drop next img) c.fit.0.1))
 
   module _ {img : List ℕ} {first n : ℕ} {i : K} {here left : ℕ} (w : Cutting img first n i here left) (some_left : 0 < left)
-      {o : Result (K × ℕ) Fault} (a : Reads img key.read here o) {x d : K × ℕ} (z : x ≡ result_unwrap_or o d) where
+      {o : Result (K × ℕ) Fault} (a : Reads img key.read here o) {x : K × ℕ} (d : K × ℕ) (z : x ≡ result_unwrap_or o d) where
     -- the key is below it
     pub cut-over : O.cmp i x.0 ≡ Less → Cuts O key value img first n i (no_row n first here)
     unfolding rows_below row_here rows_above
@@ -159,10 +159,10 @@ module _ {K A : Type 0} (O : Order K) (key : Codec K) (value : Codec A) where
         go : (l : List (K × A)) (to : ℕ) → n ≡ length l → (rest : List (K × A)) → Come img first i here left l to rest → CutIs O key value img i l to (no_row n first here)
         go l to e [] c = absurd (omega (arith, c.many))
         go l to e (r ∷ m) c =
-            let v : O.cmp i r.0 ≡ Less = rw (← (key-is c a z)) h in
+            let v : O.cmp i r.0 ≡ Less = rw (← (key-is c a d z)) h in
             ended e c (rw v) (rw v) (rw v)
 
-    module _ {u : Result ℕ Fault} (p : Ends img value.read x.1 u) {next e : ℕ} (y : next ≡ result_unwrap_or u e) where
+    module _ {u : Result ℕ Fault} (p : Ends img value.read x.1 u) {next : ℕ} (dy : ℕ) (y : next ≡ result_unwrap_or u dy) where
       -- it is the key's
       pub cut-found : O.cmp i x.0 ≡ Equal → Cuts O key value img first n i (record { count = n; first = first; row = here; after = next; place = Some x.1 })
       unfolding rows_below row_here rows_above rows_bytes
@@ -172,14 +172,14 @@ module _ {K A : Type 0} (O : Order K) (key : Codec K) (value : Codec A) where
               → CutIs O key value img i l to (record { count = n; first = first; row = here; after = next; place = Some x.1 })
           go l to e [] c = absurd (omega (arith, c.many))
           go l to e (r ∷ m) c =
-              let v : O.cmp i r.0 ≡ Equal = rw (← (key-is c a z)) h in
+              let v : O.cmp i r.0 ≡ Equal = rw (← (key-is c a d z)) h in
               record {
                 count = e;
                 below = rw (c.below, v, append-nil c.passed) c.before;
-                here = rw (c.own, v, append-nil (key_bytes c ++ record_bytes c)) (row-to c a z p y);
-                above = rw (c.above, v) (rest-to c a z p y);
-                holds = rw (c.own, v) (record-held c a z p y);
-                stands = rw (c.own, v) (record-span c a z p y);
+                here = rw (c.own, v, append-nil (key_bytes c ++ record_bytes c)) (row-to c a d z p dy y);
+                above = rw (c.above, v) (rest-to c a d z p dy y);
+                holds = rw (c.own, v) (record-held c a d z p dy y);
+                stands = rw (c.own, v) (record-span c a d z p dy y);
               }
 
       -- the key is above it
@@ -190,15 +190,15 @@ module _ {K A : Type 0} (O : Order K) (key : Codec K) (value : Codec A) where
           go : (rest : List (K × A)) → Come img first i here left l to rest → (rest : List (K × A)) × Come img first i next (left - 1) l to rest
           go [] c = absurd (omega (arith, c.many))
           go (r ∷ m) c =
-              let v : O.cmp i r.0 ≡ Greater = rw (← (key-is c a z)) h in (
+              let v : O.cmp i r.0 ≡ Greater = rw (← (key-is c a d z)) h in (
                 m,
                 record {
                   passed = c.passed ++ (r ∷ []);
                   below = c.below ∙ rw v (sym (append_assoc c.passed (r ∷ []) (rows_below O i m)));
                   own = c.own ∙ rw v;
                   above = c.above ∙ rw v;
-                  before = rw (rows_append O key value c.passed (r ∷ []), append-nil (key_bytes c ++ record_bytes c)) (span-both c.before (row-to c a z p y));
-                  behind = rest-to c a z p y;
+                  before = rw (rows_append O key value c.passed (r ∷ []), append-nil (key_bytes c ++ record_bytes c)) (span-both c.before (row-to c a d z p dy y));
+                  behind = rest-to c a d z p dy y;
                   many = omega (arith, c.many);
                   fit = c.fit.1;
                 },
@@ -219,7 +219,7 @@ module _ {K A : Type 0} (O : Order K) (key : Codec K) (value : Codec A) where
           let head = number_bytes (length m.rows) in
           let w : Spans img at (head ++ bytes_of m.rows) to = subst (λ (t : List ℕ). Spans img at (head ++ t) to) (chain-rows O key value None m.rows) s in
           let k = span-reads (number_to last_count refl) (span-front head (bytes_of m.rows) w) (omega (arith, f.count)) a in
-          let e : x ≡ (length m.rows, at + length head) = value-is k z in
+          let e : x ≡ (length m.rows, at + length head) = value-is (0, 0) k z in
           let e0 : x.0 ≡ length m.rows = ap (λ (x : ℕ × ℕ). x.0) e in
           let e1 : x.1 ≡ at + length head = ap (λ (x : ℕ × ℕ). x.1) e in
           c.cut m.rows to e0 f.each (rw e1 (span-back head (bytes_of m.rows) w))

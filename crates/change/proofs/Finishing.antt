@@ -39,10 +39,10 @@ refused-same e = record { answers = rw e; leaves = rw e }
 
 -- ---- 1 and 2
 
-pub changes-unopened : (c : Call) {A : Type 0} {img old : List ℕ} {o : Result A Refusal} {e : Refusal} {r : Result ℕ Refusal}
+pub changes-unopened : (c : Call) {A : Type 0} (img : List ℕ) {old : List ℕ} {o : Result A Refusal} {e : Refusal} {r : Result ℕ Refusal}
     → result_err o ≡ verdict_of img → o ≡ Err e → r ≡ Err e → Changes (by_rules usual c img (length old)) old r old
 unfolding new_image
-changes-unopened c {img = img} {e = e} v d z = rw z (refused-same (verdict-refused _ img e (sym v ∙ ap result_err d)))
+changes-unopened c img {e = e} v d z = rw z (refused-same (verdict-refused _ img e (sym v ∙ ap result_err d)))
 
 -- ---- room
 

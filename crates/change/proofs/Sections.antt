@@ -11,7 +11,7 @@ use Rattle.std.specs.Result.{result_unwrap_or}
 use Rattle.wire.specs.declared.fault.Fault.{Fault}
 use Rattle.wire.specs.Parse.{Parsed, fault, got, never-got}
 use Rattle.wire.specs.Codec.{Codec}
-use Rattle.wire.specs.Reading.{Reads, said, place_in}
+use Rattle.wire.specs.Reading.{Reads, said, next_in}
 use Rattle.image.specs.Meaning.{Store}
 use Rattle.image.specs.NodeLayout.{node, base}
 use Rattle.image.specs.RecordLayout.{layer_record, records}
@@ -78,9 +78,9 @@ same_place img {m} {q} h k e = omega (arith, length-drop m img, length-drop q im
 -- what a reader finds where this was to be read
 pub reads-got : {A : Type 0} (img : List ℕ) {p : List ℕ → Parsed A} {n q : ℕ} {a : A} {o : Result (A × ℕ) Fault} → p (drop n img) ≡ got a (drop q img) → q ≤ length img
     → Reads img p n o → o ≡ Ok (a, q)
-reads-got img {q = q} {a} {o} d h r = go o (sym d ∙ r.same) r.within
+reads-got {A} img {q = q} {a} {o} d h r = go o (sym d ∙ r.same) r.within
   where
-    go : (o : Result (A × ℕ) Fault) → got a (drop q img) ≡ said img o → place_in img o → o ≡ Ok (a, q)
+    go : (o : Result (A × ℕ) Fault) → got a (drop q img) ≡ said img o → next_in img o → o ≡ Ok (a, q)
     go (Ok x) e w =
         let z : drop q img ≡ drop x.1 img = cc in
         let y : x.0 ≡ a = cc in
@@ -93,8 +93,8 @@ pub span-reads : {A : Type 0} {img : List ℕ} (c : Codec A) {n q : ℕ} {a : A}
 span-reads {img = img} c {q = q} {a} w f r = reads-got img (ap c.read w.is ∙ c.back a (drop q img) f) w.within r
 
 -- what was read is the answer, whatever would be answered if it weren't
-pub value-is : {A E : Type 0} {o : Result A E} {x y d : A} → o ≡ Ok y → x ≡ result_unwrap_or o d → x ≡ y
-value-is {d = d} e z = z ∙ ap (λ o. result_unwrap_or o d) e
+pub value-is : {A E : Type 0} {o : Result A E} {x y : A} (d : A) → o ≡ Ok y → x ≡ result_unwrap_or o d → x ≡ y
+value-is d e z = z ∙ ap (λ o. result_unwrap_or o d) e
 
 -- what is passed where a construct was written, with these bytes after it
 pub record Past (img : List ℕ) (n : ℕ) (bytes : List ℕ) (t : List ℕ) (place : ℕ) : Type 0 where
