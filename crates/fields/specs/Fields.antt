@@ -1,34 +1,20 @@
 -- Fields merged by value: the new one, if it is there. Document 01: "Update merges into a live delta, field by field".
-use Rattle.wire.specs.declared.time.Time.{Time}
-use Rattle.wire.specs.declared.text.Part.{Part}
-use Rattle.std.specs.Prelude.{None, Option, Some, ℕ}
+use Rattle.std.specs.Option.{option_or}
 use Rattle.nodes.specs.Attrs.{attr_delta}
 use Rattle.nodes.specs.declared.attr.AttrDelta.{AttrDelta}
 use Rattle.nodes.specs.declared.attr.Words.{Words}
 use Rattle.nodes.specs.declared.attr.Times.{Times}
 
-abbrev pub or_word : Option ℕ → Option ℕ → Option ℕ
-or_word (Some n) o = Some n
-or_word None o = o
-
-abbrev pub or_time : Option Time → Option Time → Option Time
-or_time (Some t) o = Some t
-or_time None o = o
-
-abbrev pub or_part : Option Part → Option Part → Option Part
-or_part (Some p) o = Some p
-or_part None o = o
-
 abbrev pub words_over : AttrDelta → AttrDelta → Words
-words_over a b = record { mode = or_word a.mode b.mode; uid = or_word a.uid b.uid; gid = or_word a.gid b.gid; nlink = or_word a.nlink b.nlink }
+words_over a b = record { mode = option_or a.mode b.mode; uid = option_or a.uid b.uid; gid = option_or a.gid b.gid; nlink = option_or a.nlink b.nlink }
 
 abbrev pub times_over : AttrDelta → AttrDelta → Times
 times_over a b = record {
-  atime = or_time a.atime b.atime;
-  mtime = or_time a.mtime b.mtime;
-  ctime = or_time a.ctime b.ctime;
-  created_at = or_time a.created_at b.created_at;
+  atime = option_or a.atime b.atime;
+  mtime = option_or a.mtime b.mtime;
+  ctime = option_or a.ctime b.ctime;
+  created_at = option_or a.created_at b.created_at;
 }
 
 abbrev pub attr_over : AttrDelta → AttrDelta → AttrDelta
-attr_over a b = attr_delta (words_over a b) (times_over a b) (or_part a.xattrs b.xattrs)
+attr_over a b = attr_delta (words_over a b) (times_over a b) (option_or a.xattrs b.xattrs)

@@ -16,9 +16,10 @@ use Rattle.wire.specs.Lists.{Every}
 use Rattle.image.specs.Meaning.{Text, Kind, Entries, Attributes, Store, directory, file, symlink, special}
 use Rattle.image.specs.StoreLayout.{store}
 use Rattle.image.specs.RoundTrip.{read_image}
-use Rattle.survey.specs.Verdict.{refusal_of, refusal_number, verdict_of, judge}
-use Rattle.survey.specs.declared.store.Verdict.{Verdict}
-use Rattle.survey.specs.declared.store.Verdict.TheVariants as D
+use Rattle.survey.specs.Verdict.{number_of, verdict_of, judge}
+use Rattle.survey.specs.declared.refusal.Refusal.{Refusal}
+use Rattle.std.proofs.lemmas.Option.{none-some, same_Some}
+use Rattle.survey.specs.declared.refusal.Refusal.TheVariants as D
 use Rattle.rules.specs.Initial.{Initial}
 use Rattle.rules.specs.Answers.{Answer, refused, first_of, unless}
 use Rattle.rules.specs.Stacks.{stack, layers}
@@ -63,34 +64,24 @@ module _ {A B : Type 0} (g : A → B) (f : Store → Answer A) (h : Store → An
       go false (got s r) e = k s (read-end img e)
 
 -- by the verdict of the one pass
-pub verdict-fine : (img : List ℕ) → verdict_of img ≡ D.Fine → (s : Store) × (read_image img ≡ got s []) × (length img ≤ 65536)
+pub verdict-fine : (img : List ℕ) → verdict_of img ≡ None → (s : Store) × (read_image img ≡ got s []) × (length img ≤ 65536)
 unfolding verdict_of
 verdict-fine img v = go (ltb 65536 (length img)) refl (read_image img) refl v
   where
-    go : (b : Bool) → ltb 65536 (length img) ≡ b → (o : Parsed Store) → read_image img ≡ o → cond b D.TooLong (judge o) ≡ D.Fine
+    go : (b : Bool) → ltb 65536 (length img) ≡ b → (o : Parsed Store) → read_image img ≡ o → cond b (Some D.ImageTooLong) (judge o) ≡ None
         → (s : Store) × (read_image img ≡ got s []) × (length img ≤ 65536)
-    go true l o e d = absurd (let z : ◌≡◌ {A = ℕ} 0 1 = cc in omega arith)
-    go false l (fault f) e d = absurd (let z : ◌≡◌ {A = ℕ} 0 1 = cc in omega arith)
+    go true l o e d = absurd (none-some _ (sym d))
+    go false l (fault f) e d = absurd (none-some _ (sym d))
     go false l (got s r) e d = (s, read-end img e, ltb-false 65536 (length img) l)
 
-pub number-refused : (v : Verdict) {n : ℕ} → n ≡ refusal_number v → (n ≡ 0 → ⊥) → refusal_of v ≡ Some n
-number-refused D.Fine e z = absurd (z e)
-number-refused D.TooLong e z = ap Some (sym e)
-number-refused D.Broken e z = ap Some (sym e)
-
-pub number-fine : (v : Verdict) {n : ℕ} → n ≡ refusal_number v → n ≡ 0 → v ≡ D.Fine
-number-fine D.Fine e z = refl
-number-fine D.TooLong e z = absurd (omega arith)
-number-fine D.Broken e z = absurd (omega arith)
-
-pub verdict-refused : {A : Type 0} (f : Store → Answer A) (img : List ℕ) (n : ℕ) → refusal_of (verdict_of img) ≡ Some n → over_image f img ≡ refused n
+pub verdict-refused : {A : Type 0} (f : Store → Answer A) (img : List ℕ) (v : Refusal) → verdict_of img ≡ Some v → over_image f img ≡ refused (number_of v)
 unfolding verdict_of over_image
-verdict-refused f img n v = go (ltb 65536 (length img)) (read_image img) v
+verdict-refused f img v = go (ltb 65536 (length img)) (read_image img)
   where
-    go : (b : Bool) (o : Parsed Store) → refusal_of (cond b D.TooLong (judge o)) ≡ Some n → cond b (refused 1) (of_store f o) ≡ refused n
-    go true o e = cc
-    go false (fault y) e = cc
-    go false (got s r) e = cc
+    go : (b : Bool) (o : Parsed Store) → cond b (Some D.ImageTooLong) (judge o) ≡ Some v → cond b (refused 1) (of_store f o) ≡ refused (number_of v)
+    go true o e = ap (λ (r : Refusal). refused (number_of r)) (same_Some _ _ e)
+    go false (fault y) e = ap (λ (r : Refusal). refused (number_of r)) (same_Some _ _ e)
+    go false (got s r) e = absurd (none-some _ e)
 
 -- ---- rows
 

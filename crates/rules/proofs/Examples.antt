@@ -5,7 +5,7 @@ use mathlib.Core.List.{List, [], ◌∷◌}
 use mathlib.Core.Bool.{true, false}
 use Prim.Native.Nat.{ℕ, zero, suc, ◌-◌, ◌^◌}
 use native.Mathlib.Omega.{arith}
-use Rattle.wire.specs.declared.cursor.Fault.TheVariants.{Ended, Malformed}
+use Rattle.wire.specs.declared.fault.Fault.TheVariants.{Ended, Malformed}
 use Rattle.wire.specs.Parse.{fault, got}
 use Rattle.wire.specs.Number.{edge, number_read, groups-read, groups, number_bytes}
 use Rattle.wire.specs.Time.{epoch}

@@ -10,7 +10,7 @@ use Rattle.wire.specs.Parse.{got}
 use Rattle.wire.specs.Number.{number_bytes, groups}
 use Rattle.wire.specs.Codec.{Codec, OneForm}
 use Rattle.wire.specs.Combinators.{opt_write}
-use Rattle.wire.specs.declared.cursor.Cursor.TheVariants.{At}
+use Rattle.std.specs.Prelude.{Ok}
 use Rattle.wire.specs.Reading.{Reads}
 use Rattle.image.specs.Meaning.{Kind, Entries, Names, Meta, Node, Changes, Fields, Delta, directory, file, symlink, special, pipe, character, block, socket, delta, kind_of, changed_kind}
 use Rattle.image.specs.Masks.{maybe}
@@ -27,14 +27,14 @@ module _ (img : List ℕ) where
   pub on : (p : ℕ) (w t : List ℕ) → drop p img ≡ w ++ t → drop (p + length w) img ≡ t
   on p w t e = sym (drop-drop (length w) p img) ∙ ap (drop (length w)) e ∙ drop-append_seam w t
 
-  -- the cursor after what was read is as far on as what is written is long
-  pub read-place : {A : Type 0} (c : Codec A) → OneForm c → (p q : ℕ) {a : A} → p ≤ length img → Reads img c.read (At p) a (At q) → q ≡ p + length (c.write a)
+  -- the place after what was read is as far on as what is written is long
+  pub read-place : {A : Type 0} (c : Codec A) → OneForm c → (p q : ℕ) {a : A} → p ≤ length img → Reads img c.read p (Ok (a, q)) → q ≡ p + length (c.write a)
   read-place c one p q {a} h r =
       let f = (one.forth (drop p img) a (drop q img) r.same).0 in
       let l : length (drop p img) ≡ length (c.write a) + length (drop q img) = ap length f ∙ length-append (c.write a) (drop q img) in
       omega (arith, length-drop p img, length-drop q img, r.within)
 
-  pub ends-place : {A : Type 0} (c : Codec A) → OneForm c → (p q : ℕ) {a : A} {r : List ℕ} → p ≤ length img → Ends img c.read (At p) (At q) → c.read (drop p img) ≡ got a r
+  pub ends-place : {A : Type 0} (c : Codec A) → OneForm c → (p q : ℕ) {a : A} {r : List ℕ} → p ≤ length img → Ends img c.read p (Ok q) → c.read (drop p img) ≡ got a r
       → q ≡ p + length (c.write a)
   ends-place c one p q {a} {r} h w e =
       let z : r ≡ drop q img = let d = rw e at w.same in cc in

@@ -1,18 +1,15 @@
 -- The placed stack of an inode is the stack of its store, and a survey's places are its places.
-use Rattle.std.specs.Prelude.{None, Option, Some}
+use Rattle.std.specs.Prelude.{None, Option, Some, Ok}
 use mathlib.Core.Path.{◌≡◌, refl, sym, ap, ◌∙◌}
 use mathlib.Core.List.{List, [], ◌∷◌, ◌++◌, reverse, reverse_aux}
-use Prim.Native.Nat.{ℕ, ◌-◌}
+use Prim.Native.Nat.{ℕ, ◌-◌, ◌≤◌}
 use native.Mathlib.Omega.{arith}
 use lib.ListN.{length, drop, length-drop}
 use lib.Seq.{take-length}
-use Rattle.wire.specs.declared.cursor.Cursor.{Cursor}
-use Rattle.wire.specs.declared.cursor.Cursor.TheVariants.{At, Stop}
 use Rattle.wire.specs.Parse.{Parsed, fault, got, never-got}
 use Rattle.wire.specs.Codec.{Codec, OneForm}
 use Rattle.wire.specs.Orders.{by_number}
 use Rattle.wire.specs.Maps.{get}
-use Rattle.wire.specs.Reading.{run, give, cursor_in}
 use Rattle.image.specs.Meaning.{Node, Record, Layer, Batch, Store}
 use Rattle.image.specs.NodeLayout.{node, base}
 use Rattle.image.specs.RecordLayout.{layer_record, records}
@@ -23,82 +20,77 @@ use Rattle.survey.specs.Survey.{Surveys}
 use Rattle.image.specs.RoundTrip.{read_image}
 use Rattle.survey.specs.declared.store.Survey.{Survey}
 use Rattle.image.proofs.Holding.{suffix-drop, suffix-rest}
-use Rattle.survey.proofs.Surveyed.{AllHold, if_there, batch_records, records_of, survey-holds}
+use Rattle.survey.proofs.Surveyed.{Sections, sections, read_whole, AllHold, if_there, batch_records, records_of, survey-holds}
 use Rattle.rules.specs.Stacks.{over?, stack_on, stack, with_live, layers}
 use Rattle.rules.specs.Starts.{Placed}
-use Rattle.rules.specs.PlacedStacks.{cursor_after, batches_at, live_at, node_place, record_places, read_at, node_at, on_top, records_on, placed_records, placed_node, unplaced, unplaced_node}
+use Rattle.rules.specs.PlacedStacks.{place_after, batches_at, live_at, node_place, record_places, read_at, node_at, on_top, records_on, placed_records, placed_node, unplaced, unplaced_node}
 use Rattle.image.proofs.OneForm.{base-one, batches-one, store-one, records-one}
-
--- ---- cursors
-
-module _ {A : Type 0} {img : List ℕ} (c : Codec A) where
-  -- what is read ends at the cursor after it
-  after-ends : OneForm c → (at : Cursor) → cursor_in img at → Ends img c.read at (cursor_after img (run img c.read at))
-  after-ends one (Stop f) w = record { same = refl; within = tt }
-  after-ends one (At n) w = go (c.read (drop n img)) refl
-    where
-      go : (o : Parsed A) → c.read (drop n img) ≡ o → Ends img c.read (At n) (cursor_after img o)
-      go (fault f) e = record { same = rw e; within = tt }
-      go (got a r) e =
-          let s = suffix-rest c one (suffix-drop img n w) e in
-          record { same = rw (e, ← s.is); within = omega arith }
-
-  -- and ends nowhere else
-  ends-after : {at : Cursor} (next : Cursor) → Ends img c.read at next → cursor_after img (run img c.read at) ≡ next
-  ends-after {at} next h = go (run img c.read at) next h.same h.within
-    where
-      go : (o : Parsed A) (next : Cursor) → passed o ≡ give img tt next → cursor_in img next → cursor_after img o ≡ next
-      go (fault f) (At q) e w = never-got e
-      go (fault f) (Stop g) e w = cc
-      go (got a r) (Stop g) e w = never-got (sym e)
-      go (got a r) (At q) e w =
-          let z : r ≡ drop q img = cc in
-          let l : length img - length r ≡ q = rw z (omega (arith, length-drop q img)) in
-          ap At l
 
 -- ---- places
 
+module _ {A : Type 0} {img : List ℕ} (c : Codec A) where
+  -- what is read at a place ends at the place after it
+  after-ends : OneForm c → (at : ℕ) → at ≤ length img → {a : A} {r : List ℕ} → c.read (drop at img) ≡ got a r → Ends img c.read at (Ok (length img - length r))
+  after-ends one at w {a} {r} e =
+      let s = suffix-rest c one (suffix-drop img at w) e in
+      record { same = rw (e, ← s.is); within = omega arith }
+
+  -- and nowhere else
+  ends-after : {at q : ℕ} → Ends img c.read at (Ok q) → place_after img (c.read (drop at img)) ≡ Some q
+  ends-after {at} {q} h = go (c.read (drop at img)) h.same h.within
+    where
+      go : (o : Parsed A) → passed o ≡ got tt (drop q img) → q ≤ length img → place_after img o ≡ Some q
+      go (fault f) e w = never-got e
+      go (got a r) e w =
+          let z : r ≡ drop q img = cc in
+          let l : length img - length r ≡ q = rw z (omega (arith, length-drop q img)) in
+          ap Some l
+
 -- The places that a survey found are the places of the definitions.
-pub survey-node : {img : List ℕ} {i : ℕ} {r : Survey} {q : ℕ} → Surveys img i r → r.end ≡ At q → r.stack.base ≡ node_place img i
+pub survey-node : {img : List ℕ} {i : ℕ} {r : Survey} → Surveys img i r → r.stack.base ≡ node_place img i
 unfolding node_place
-survey-node {q = q} w e = w.node q e
+survey-node w = w.node
 
-pub survey-records : {img : List ℕ} {i : ℕ} {r : Survey} {q : ℕ} → Surveys img i r → r.end ≡ At q → deltas_of r.stack ≡ record_places img i
+pub survey-records : {img : List ℕ} {i : ℕ} {r : Survey} → Surveys img i r → deltas_of r.stack ≡ record_places img i
 unfolding record_places
-survey-records {r = r} {q} w e = rw (ends-after base r.batches w.base, ends-after batches r.live w.batches) (w.deltas q e)
+survey-records {r = r} w = rw (ends-after base w.base, ends-after batches w.batches) w.deltas
 
--- a survey by the definitions
-as_place : Option ℕ → Option ℕ
-as_place None = None
-as_place (Some p) = Some p
+-- An image that is read has a survey.
+module _ (img : List ℕ) (i : ℕ) {s : Store} (e : read_image img ≡ got s []) where
+  abbrev parts : Sections img s
+  parts = sections img (read_whole img e)
 
-place-as : (o : Option ℕ) → (as_place o) ≡ o
-unfolding as_place
-place-as None = refl
-place-as (Some p) = refl
+  abbrev after_base : ℕ
+  after_base = length img - length parts.r1
 
-module _ (img : List ℕ) (i : ℕ) where
+  abbrev after_batches : ℕ
+  after_batches = length img - length parts.r2
+
   abbrev surveyed : Survey
   surveyed = record {
-    stack = record { base = as_place (node_place img i); deltas = record_places img i; count = length (record_places img i) };
-    batches = batches_at img;
-    live = live_at img;
-    tail = cursor_after img (run img records.read (live_at img));
-    end = cursor_after img (run img store.read (At 0));
+    stack = record { base = node_place img i; deltas = record_places img i; count = length (record_places img i) };
+    batches = after_base;
+    live = after_batches;
+    tail = length img - length parts.r3;
+    end = length img - length {A = ℕ} [];
   }
 
   surveys : Surveys img i surveyed
   unfolding node_place record_places
   surveys =
-      let b = after-ends {img = img} base base-one (At 0) (omega arith) in
-      let l = after-ends {img = img} batches batches-one (batches_at img) b.within in
+      let b = after-ends {img = img} base base-one 0 (omega arith) parts.at_base in
+      let u : drop after_base img ≡ parts.r1 = sym (suffix-rest base base-one (suffix-drop img 0 (omega arith)) parts.at_base).is in
+      let x : batches.read (drop after_base img) ≡ got s.batches parts.r2 = rw u parts.at_batches in
+      let l = after-ends {img = img} batches batches-one after_base b.within x in
+      let v : drop after_batches img ≡ parts.r2 = sym (suffix-rest batches batches-one (suffix-drop img after_base b.within) x).is in
+      let y : records.read (drop after_batches img) ≡ got s.live parts.r3 = rw v parts.at_live in
       record {
-        ends = after-ends {img = img} store store-one (At 0) (omega arith);
+        ends = after-ends {img = img} store store-one 0 (omega arith) (read_whole img e);
         base = b;
         batches = l;
-        live = after-ends {img = img} records records-one (live_at img) l.within;
-        node = λ q e. place-as (node_place img i);
-        deltas = λ q e. take-length (record_places img i);
+        live = after-ends {img = img} records records-one after_batches l.within y;
+        node = refl;
+        deltas = take-length (record_places img i) ∙ rw (ends-after base b, ends-after batches l) refl;
       }
 
 -- ---- what they hold
@@ -107,8 +99,8 @@ module _ (img : List ℕ) (i : ℕ) where
 pub places-hold : (img : List ℕ) (i : ℕ) {s : Store} → read_image img ≡ got s []
     → Holds img node.read (node_place img i) (get by_number i s.base) × AllHold img layer_record.read (record_places img i) (records_of i s)
 places-hold img i e =
-    let h = survey-holds (surveys img i) e in
-    (rw (place-as (node_place img i)) at h.node_held, rw (take-length (record_places img i)) at h.records_held)
+    let h = survey-holds (surveys img i e) e in
+    (h.node_held, rw (take-length (record_places img i)) at h.records_held)
 
 node-read : (img : List ℕ) (o : Option ℕ) (n : Option Node) → Holds img node.read o n → unplaced_node (node_at img o) ≡ n
 node-read img None None h = refl

@@ -4,7 +4,7 @@ use mathlib.Core.List.{List, ◌++◌}
 use Prim.Native.Nat.{ℕ, ◌≤◌, ◌<◌}
 use lib.Dec.{leb}
 use borrow.Author.Tests.{le-leb, lt-leb}
-use Rattle.wire.specs.declared.cursor.Fault.TheVariants.{Malformed}
+use Rattle.wire.specs.declared.fault.Fault.TheVariants.{Malformed}
 use Rattle.wire.specs.Parse.{fault, got, check, bind_inv, check_inv}
 use Rattle.wire.specs.Number.{edge, number_bytes, groups-read, number_read, number-back}
 

@@ -1,41 +1,38 @@
 -- The stack of an inode in an image, each node and record with its place. Whatever the bytes are, it is defined.
-use Rattle.std.specs.Prelude.{List, [], ◌∷◌, ◌++◌, map, ℕ, ◌-◌, length, drop, None, Option, Some}
-use Rattle.wire.specs.declared.cursor.Cursor.{Cursor}
-use Rattle.wire.specs.declared.cursor.Cursor.TheVariants.{At, Stop}
+use Rattle.std.specs.Prelude.{List, [], ◌∷◌, ◌++◌, map, ℕ, ◌-◌, length, drop, None, Option, Some, option_and_then}
 use Rattle.wire.specs.Parse.{Parsed, fault, got}
 use Rattle.wire.specs.Codec.{Codec}
 use Rattle.wire.specs.Orders.{by_number}
-use Rattle.wire.specs.Reading.{run}
 use Rattle.image.specs.Meaning.{Node, Record}
 use Rattle.image.specs.FieldLayout.{inode}
 use Rattle.image.specs.NodeLayout.{node, base}
 use Rattle.image.specs.RecordLayout.{layer_record}
 use Rattle.image.specs.StoreLayout.{batches}
 use Rattle.image.specs.Places.{if_read, place_in}
-use Rattle.survey.specs.Gathering.{list_if, queue_places}
+use Rattle.survey.specs.Gathering.{list_if, or_none, queue_places}
 use Rattle.rules.specs.Changes.{map_if}
 use Rattle.rules.specs.Starts.{Placed}
 
 -- ---- places
 
--- the cursor after what was read, or why there is none
-abbrev pub cursor_after : {A : Type 0} → List ℕ → Parsed A → Cursor
-cursor_after img (fault f) = Stop f
-cursor_after img (got a r) = At (length img - length r)
+-- the place after what was read
+abbrev pub place_after : {A : Type 0} → List ℕ → Parsed A → Option ℕ
+place_after img (fault f) = None
+place_after img (got a r) = Some (length img - length r)
 
 -- "Order: base, batches, live"
-abbrev pub batches_at : List ℕ → Cursor
-batches_at img = cursor_after img (run img base.read (At 0))
+abbrev pub batches_at : List ℕ → Option ℕ
+batches_at img = place_after img (base.read (drop 0 img))
 
-abbrev pub live_at : List ℕ → Cursor
-live_at img = cursor_after img (run img batches.read (batches_at img))
+abbrev pub live_at : List ℕ → Option ℕ
+live_at img = option_and_then (λ n. place_after img (batches.read (drop n img))) (batches_at img)
 
 unfoldable pub node_place : List ℕ → ℕ → Option ℕ
-node_place img i = place_in by_number inode node img i (At 0)
+node_place img i = place_in by_number inode node img i 0
 
 -- "its record in each batch (front first), its live record"
 unfoldable pub record_places : List ℕ → ℕ → List ℕ
-record_places img i = queue_places img i (batches_at img) ++ list_if (place_in by_number inode layer_record img i (live_at img))
+record_places img i = or_none (batches_at img) (queue_places img i) ++ list_if (option_and_then (place_in by_number inode layer_record img i) (live_at img))
 
 -- ---- what they hold
 

@@ -55,15 +55,15 @@ made-inv f (fault y) e = never-got e
 made-inv f (got a t) {r = r} e = let z : t ≡ r = cc in (a, ap (got a) z, cc)
 
 -- the sections of a store that was read
-record Sections (s : List ℕ) (st : Store) : Type 0 where
-  r1 : List ℕ
-  r2 : List ℕ
-  r3 : List ℕ
-  at_base : base.read s ≡ got st.base r1
-  at_batches : batches.read r1 ≡ got st.batches r2
-  at_live : records.read r2 ≡ got st.live r3
+pub record Sections (s : List ℕ) (st : Store) : Type 0 where
+  pub r1 : List ℕ
+  pub r2 : List ℕ
+  pub r3 : List ℕ
+  pub at_base : base.read s ≡ got st.base r1
+  pub at_batches : batches.read r1 ≡ got st.batches r2
+  pub at_live : records.read r2 ≡ got st.live r3
 
-sections : (s : List ℕ) {st : Store} {r : List ℕ} → store.read s ≡ got st r → Sections s st
+pub sections : (s : List ℕ) {st : Store} {r : List ℕ} → store.read s ≡ got st r → Sections s st
 unfolding store
 sections s {st} {r} e =
     let m = made-inv store_of ((seq base (λ _. seq batches rest_of)).read s) e in
@@ -166,7 +166,7 @@ module _ (img : List ℕ) (i : ℕ) where
 ends-place : {A : Type 0} {img : List ℕ} {p : List ℕ → Parsed A} {n m : ℕ} {a : A} {t : List ℕ} → Ends img p n (Ok m) → p (drop n img) ≡ got a t → drop m img ≡ t
 ends-place {img = img} {m = m} {a} {t} h e = let d = rw e at h.same in cc
 
-read_whole : (s : List ℕ) {st : Store} → read_image s ≡ got st [] → store.read s ≡ got st []
+pub read_whole : (s : List ℕ) {st : Store} → read_image s ≡ got st [] → store.read s ≡ got st []
 unfolding decode
 read_whole s {st} e = go (store.read s) e
   where
