@@ -1,7 +1,7 @@
 -- Calls that are given a name: refusal 3 comes after 1 and 2.
 -- Assumes nothing.
 use Rattle.std.specs.Prelude.{Result, Ok, Err, None, Option, Some}
-use mathlib.Core.Path.{◌≡◌, refl, sym, ap, ◌∙◌}
+use mathlib.Core.Path.{◌≡◌, refl, sym, ◌∙◌}
 use mathlib.Core.Bool.{Bool, true, false}
 use mathlib.Core.List.{List, [], ◌∷◌}
 use Prim.Native.Nat.{ℕ, zero, suc, ◌≤◌, ◌<◌}
@@ -10,7 +10,7 @@ use lib.Dec.{ltb}
 use lib.ListN.{length}
 use borrow.Author.Tests.{le-leb, lt-leb, ltb-true, ltb-false}
 use Rattle.image.specs.Meaning.{Text, Store}
-use Rattle.survey.specs.Verdict.{number_of, refusal_of, verdict_of}
+use Rattle.survey.specs.Verdict.{number_of, verdict_of}
 use Rattle.survey.specs.declared.batch.InodeLayerStack.{InodeLayerStack}
 use Rattle.survey.specs.declared.refusal.Refusal.{Refusal}
 use Rattle.survey.specs.declared.refusal.Refusal.TheVariants.{BadName}
@@ -61,7 +61,7 @@ module _ {img : List ℕ} {i : ℕ} {name : Text} {o : Result InodeLayerStack Re
       call s = unless (first_of ((3, bad_name name) ∷ [])) (g s)
 
       go : (v : Option Refusal) → verdict_of img ≡ v → (b : Bool) → bad_name name ≡ b → Some r ≡ named_verdict v name → over_image call img ≡ refused (number_of r)
-      go (Some x) ev b eb n = verdict-refused call img (number_of r) (rw ev (ap refusal_of (sym n)))
+      go (Some x) ev b eb n = verdict-refused call img r (ev ∙ sym n)
       go None ev true eb n =
           let s = verdict-fine img ev in
           let z : r ≡ BadName = (let y = rw eb at n in cc) in

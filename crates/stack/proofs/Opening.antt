@@ -65,7 +65,7 @@ pub ruleset opens = (opens-stop, opens-stack, handed)
 module _ {img : List ℕ} {i : ℕ} {o : Result InodeLayerStack Refusal} (h : Opens img i o) where
   -- where the image is refused, so is every call
   pub opened-refused : {A : Type 0} (f : Store → Answer A) {r : Refusal} → o ≡ Err r → over_image f img ≡ refused (number_of r)
-  opened-refused f {r} d = let g = rw d at h in verdict-refused f img (number_of r) (rw (← g.verdict))
+  opened-refused f {r} d = let g = rw d at h in verdict-refused f img r (sym g.verdict)
 
   -- where it isn't, it is that of a store
   pub opened-store : {s : InodeLayerStack} → o ≡ Ok s → (st : Store) × (read_image img ≡ got st []) × (length img ≤ 65536)
