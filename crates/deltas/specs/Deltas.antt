@@ -1,14 +1,13 @@
 -- What a record by value means. Document 01: "`EntryDelta` stays an enum whose node case wraps the enum of kinds, texts as places beside it."
-use Rattle.std.specs.Prelude.{◌≡◌, List, ℕ, ◌+◌, length}
-use Rattle.wire.specs.declared.cursor.Cursor.{Cursor}
-use Rattle.wire.specs.declared.cursor.Cursor.TheVariants as C
+use Rattle.std.specs.Prelude.{◌≡◌, List, ℕ, ◌+◌, length, Result, IfOk}
+use Rattle.wire.specs.declared.fault.Fault.{Fault}
 use Rattle.wire.specs.Parse.{Parsed, got, bind}
-use Rattle.wire.specs.Reading.{Reads}
+use Rattle.wire.specs.Reading.{Reads, meant}
 use Rattle.image.specs.Meaning.{Kind, Fields, Change, Delta, Record, directory, file, symlink, special, pipe, character, block, socket, tombstone, delta}
 use Rattle.image.specs.RecordLayout.{fields, change_part, change_of, layer_record}
 use Rattle.image.specs.declared.name.Under.TheVariants as U
 use Rattle.nodes.specs.Options.{text_of, InsideIf}
-use Rattle.nodes.specs.Listed.{list_at, Listed, ListedIf, IfAt}
+use Rattle.nodes.specs.Listed.{list_at, Listed, ListedIf}
 use Rattle.nodes.specs.Attrs.{fields_meant}
 use Rattle.nodes.specs.declared.attr.AttrDelta.{AttrDelta}
 use Rattle.deltas.specs.declared.delta.SpecialDelta.{SpecialDelta}
@@ -68,10 +67,10 @@ ChangeListed img (Socket d) end = Unit {0}
 abbrev pub delta_read : Kind → Fields → List ℕ → Parsed Record
 delta_read k f s = bind ((change_part k).read s) (λ p r. got (delta (record { fields = f; change = change_of k p })) r)
 
-pub record ReadsDelta (img : List ℕ) (at : Cursor) (k : Kind) (a : AttrDelta) (n : NodeDelta) (next : Cursor) : Type 0 where
-  pub reads : Reads img (delta_read k (fields_meant img a)) at (delta (delta_meant img n)) next
-  pub attr : attr_of n ≡ a
-  pub listed : IfAt next (ChangeListed img n)
+pub record ReadsDelta (img : List ℕ) (k : Kind) (a : AttrDelta) (at : ℕ) (r : Result (NodeDelta × ℕ) Fault) : Type 0 where
+  pub reads : Reads img (delta_read k (fields_meant img a)) at (meant (λ n. delta (delta_meant img n)) r)
+  pub attr : IfOk r (λ x. attr_of x.0 ≡ a)
+  pub listed : IfOk r (λ x. ChangeListed img x.0 x.1)
 
 abbrev pub AttrListed : List ℕ → EntryDelta → ℕ → Type 0
 AttrListed img (E.Node n) end = ListedIf img U.Change (attr_of n).xattrs end
@@ -86,7 +85,7 @@ fields_length img (E.Node n) = length (fields.write (fields_meant img (attr_of n
 fields_length img E.Tombstone = 0
 
 -- a record was read; the attribute changes end where its fields do, one byte after the code
-pub record ReadsEntry (img : List ℕ) (at : Cursor) (e : EntryDelta) (next : Cursor) : Type 0 where
-  pub reads : Reads img layer_record.read at (entry_meant img e) next
-  pub attributes : (p : ℕ) → at ≡ C.At p → IfAt next (λ q. AttrListed img e (p + 1 + fields_length img e))
-  pub lists : IfAt next (EntryListed img e)
+pub record ReadsEntry (img : List ℕ) (at : ℕ) (r : Result (EntryDelta × ℕ) Fault) : Type 0 where
+  pub reads : Reads img layer_record.read at (meant (entry_meant img) r)
+  pub attributes : IfOk r (λ x. AttrListed img x.0 (at + 1 + fields_length img x.0))
+  pub lists : IfOk r (λ x. EntryListed img x.0 x.1)

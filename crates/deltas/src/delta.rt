@@ -4,13 +4,14 @@ ghost use Rattle.image.specs.Meaning.{directory, file, symlink};
 ghost use Rattle.image.specs.KindLayout.{kind_at};
 ghost use Rattle.deltas.specs.Deltas.{attr_of, special_delta, ReadsDelta, ReadsEntry};
 
+use image::field::{LAST_SIZE, LAST_WORD};
 use image::name::Under;
 use nodes::attr::{AttrDelta, read_attr_delta};
 use nodes::option::{read_maybe_number, read_maybe_text};
-use wire::text::Part;
 use nodes::part::read_names;
-use wire::cursor::Cursor;
+use wire::fault::Fault;
 use wire::number::read_number;
+use wire::text::Part;
 
 // Added entries and removed names are lists in the image.
 #[derive(Clone, Copy)]
@@ -57,18 +58,6 @@ pub enum EntryDelta {
     Tombstone,
 }
 
-#[derive(Clone, Copy)]
-pub struct EntryDeltaRead {
-    pub delta: EntryDelta,
-    pub next: Cursor,
-}
-
-#[derive(Clone, Copy)]
-pub struct NodeDeltaRead {
-    pub delta: NodeDelta,
-    pub next: Cursor,
-}
-
 // The attribute changes of a delta, whatever its kind.
 pub fn attr_delta(delta: NodeDelta) -> AttrDelta
     ensures { result ≡ attr_of delta }
@@ -105,33 +94,27 @@ pub fn attr_delta(delta: NodeDelta) -> AttrDelta
     }
 }
 
-// The record at `at`, from its code on. Where there is none, the delta says nothing.
-pub fn read_entry_delta(img: &[u8], at: Cursor) -> EntryDeltaRead
-    ensures { ReadsEntry img.now at result.delta result.next }
+// The record at `at`, from its code on, and the place after it.
+pub fn read_entry_delta(img: &[u8], at: usize) -> Result<(EntryDelta, usize), Fault>
+    ensures { ReadsEntry img.now at result }
 {
-    let code = read_number(img, at, 7);
-    let start = code.next;
-    if code.value == 0 {
-        return EntryDeltaRead {
-            delta: EntryDelta::Tombstone,
-            next: start,
-        };
+    let (code, start) = read_number(img, at, 7)?;
+    if code == 0 {
+        return Ok((EntryDelta::Tombstone, start));
     }
-    let fields = read_attr_delta(img, start);
-    let attr_delta = fields.attr_delta;
-    let change = fields.next;
-    let node = read_node_delta(img, change, code.value - 1, attr_delta);
-    let delta = node.delta;
-    let next = node.next;
-    EntryDeltaRead {
-        delta: EntryDelta::Node(delta),
-        next,
-    }
+    let (attr_delta, change) = read_attr_delta(img, start)?;
+    let (delta, next) = read_node_delta(img, change, code - 1, attr_delta)?;
+    Ok((EntryDelta::Node(delta), next))
 }
 
 // What a delta of this kind changes, after its attributes.
-fn read_node_delta(img: &[u8], at: Cursor, kind: u64, attr_delta: AttrDelta) -> NodeDeltaRead
-    ensures { ReadsDelta img.now at (kind_at kind) attr_delta result.delta result.next }
+fn read_node_delta(
+    img: &[u8],
+    at: usize,
+    kind: u64,
+    attr_delta: AttrDelta,
+) -> Result<(NodeDelta, usize), Fault>
+    ensures { ReadsDelta img.now (kind_at kind) attr_delta at result }
 {
     match kind {
         0 => read_directory_delta(img, at, attr_delta),
@@ -141,63 +124,64 @@ fn read_node_delta(img: &[u8], at: Cursor, kind: u64, attr_delta: AttrDelta) -> 
     }
 }
 
-fn read_directory_delta(img: &[u8], at: Cursor, attr_delta: AttrDelta) -> NodeDeltaRead
-    ensures { ReadsDelta img.now at directory attr_delta result.delta result.next }
+fn read_directory_delta(
+    img: &[u8],
+    at: usize,
+    attr_delta: AttrDelta,
+) -> Result<(NodeDelta, usize), Fault>
+    ensures { ReadsDelta img.now directory attr_delta at result }
 {
-    let first = read_maybe_number(img, at, 0xFFFF_FFFF_FFFF_FFFF);
-    let parent = first.option;
-    let entries = first.next;
-    let second = read_names(img, entries, Under::Inode);
-    let added = second.part;
-    let names = second.next;
-    let third = read_names(img, names, Under::Nothing);
-    let removed = third.part;
-    let next = third.next;
-    NodeDeltaRead {
-        delta: NodeDelta::Directory(DirectoryDelta {
-            parent,
-            added,
-            removed,
-            attr_delta,
-        }),
-        next,
-    }
+    let (parent, entries) = read_maybe_number(img, at, u64::MAX)?;
+    let (added, names) = read_names(img, entries, Under::Inode)?;
+    let (removed, next) = read_names(img, names, Under::Nothing)?;
+    let delta = DirectoryDelta {
+        parent,
+        added,
+        removed,
+        attr_delta,
+    };
+    Ok((NodeDelta::Directory(delta), next))
 }
 
-fn read_file_delta(img: &[u8], at: Cursor, attr_delta: AttrDelta) -> NodeDeltaRead
-    ensures { ReadsDelta img.now at file attr_delta result.delta result.next }
+fn read_file_delta(
+    img: &[u8],
+    at: usize,
+    attr_delta: AttrDelta,
+) -> Result<(NodeDelta, usize), Fault>
+    ensures { ReadsDelta img.now file attr_delta at result }
 {
-    let number = read_maybe_number(img, at, 0x7FFF_FFFF_FFFF_FFFF);
-    let size = number.option;
-    let next = number.next;
-    NodeDeltaRead {
-        delta: NodeDelta::File(FileDelta { size, attr_delta }),
-        next,
-    }
+    let (size, next) = read_maybe_number(img, at, LAST_SIZE)?;
+    Ok((NodeDelta::File(FileDelta { size, attr_delta }), next))
 }
 
-fn read_symlink_delta(img: &[u8], at: Cursor, attr_delta: AttrDelta) -> NodeDeltaRead
-    ensures { ReadsDelta img.now at symlink attr_delta result.delta result.next }
+fn read_symlink_delta(
+    img: &[u8],
+    at: usize,
+    attr_delta: AttrDelta,
+) -> Result<(NodeDelta, usize), Fault>
+    ensures { ReadsDelta img.now symlink attr_delta at result }
 {
-    let text = read_maybe_text(img, at, 4095);
-    let target = text.option;
-    let next = text.next;
-    NodeDeltaRead {
-        delta: NodeDelta::Symlink(SymlinkDelta { target, attr_delta }),
+    let (target, next) = read_maybe_text(img, at, 4095)?;
+    Ok((
+        NodeDelta::Symlink(SymlinkDelta { target, attr_delta }),
         next,
-    }
+    ))
 }
 
 // A pipe, a device or a socket.
-fn read_special_delta(img: &[u8], at: Cursor, kind: u64, attr_delta: AttrDelta) -> NodeDeltaRead
+fn read_special_delta(
+    img: &[u8],
+    at: usize,
+    kind: u64,
+    attr_delta: AttrDelta,
+) -> Result<(NodeDelta, usize), Fault>
     requires { 3 ≤ kind }
-    ensures { ReadsDelta img.now at (kind_at kind) attr_delta result.delta result.next }
+    ensures { ReadsDelta img.now (kind_at kind) attr_delta at result }
 {
-    let number = read_number(img, at, 0xFFFF_FFFF);
-    let next = number.next;
-    let rdev = number.value as u32;
+    let (number, next) = read_number(img, at, LAST_WORD)?;
+    let rdev = number as u32;
     let delta = special_delta(kind, SpecialDelta { rdev, attr_delta });
-    NodeDeltaRead { delta, next }
+    Ok((delta, next))
 }
 
 fn special_delta(kind: u64, delta: SpecialDelta) -> NodeDelta

@@ -76,4 +76,3 @@ Holds img p (Some n) (Some a) = (r : List ℕ) × (p (drop n img) ≡ got a r)
 abbrev pub name_before : List ℕ → Option Part → Option (List ℕ)
 name_before img None = None
 name_before img (Some p) = Some (part img p.start p.length)
-

@@ -8,8 +8,8 @@ ghost use Rattle.image.specs.FieldLayout.{name as nameText};
 ghost use Rattle.image.specs.Under.{under};
 ghost use Rattle.image.specs.Places.{Ends, name_before, rows_from};
 
-use std::cmp::Ordering;
 use crate::field::{LAST_WORD, pass_maybe_text, pass_number, pass_text};
+use std::cmp::Ordering;
 use wire::fault::Fault;
 use wire::number::read_number;
 use wire::order::compare_part;

@@ -2,13 +2,13 @@
 ghost use Rattle.std.specs.Prelude.{◌≤◌, ◌≡◌, length};
 ghost use Rattle.nodes.specs.Attrs.{attr_delta, ReadsAttr, ReadsLater, ReadsChanges};
 
-use wire::time::Time;
 use crate::option::{read_time_if, read_u32_if};
-use wire::text::Part;
 use crate::part::read_names;
 use image::name::Under;
 use wire::fault::Fault;
 use wire::number::read_number;
+use wire::text::Part;
+use wire::time::Time;
 
 // Each field is there, or not. The attribute changes are a list in the image.
 #[derive(Clone, Copy)]

@@ -45,7 +45,6 @@ fn pass_held(img: &[u8], at: usize, what: Held) -> Result<usize, Fault>
 }
 
 // Passes a list by inode, and finds the place of what stands under one inode, which is after the inode. Answers that place, and the one after the list.
-#[tactic(auto, using(crate::proofs::Inodes::finds))]
 pub fn find_inode(
     img: &[u8],
     at: usize,

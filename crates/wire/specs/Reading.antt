@@ -15,9 +15,9 @@ said img (Ok r) = got r.0 (drop r.1 img)
 said img (Err f) = fault f
 
 -- the place after the value is in the image
-abbrev pub place_in : {A : Type 0} → List ℕ → Result (A × ℕ) Fault → Type 0
-place_in img (Ok r) = r.1 ≤ length img
-place_in img (Err f) = Unit {0}
+abbrev pub next_in : {A : Type 0} → List ℕ → Result (A × ℕ) Fault → Type 0
+next_in img (Ok r) = r.1 ≤ length img
+next_in img (Err f) = Unit {0}
 
 -- what was read, by what its value means
 abbrev pub meant : {X A : Type 0} → (X → A) → Result (X × ℕ) Fault → Result (A × ℕ) Fault
@@ -27,7 +27,7 @@ meant m (Err f) = Err f
 -- What the parser reads at a place: the value and the place after it, or the fault at which it stops.
 pub record Reads {A : Type 0} (img : List ℕ) (p : List ℕ → Parsed A) (at : ℕ) (result : Result (A × ℕ) Fault) : Type 0 where
   pub same : p (drop at img) ≡ said img result
-  pub within : place_in img result
+  pub within : next_in img result
 
 -- the same, where the value is the bytes of a part
 abbrev pub part_said : List ℕ → Result (Part × ℕ) Fault → Parsed (List ℕ)

@@ -3,8 +3,8 @@ ghost use Rattle.std.specs.Prelude.{◌≡◌};
 ghost use Rattle.wire.specs.Orders.{by_bytes};
 ghost use Rattle.wire.specs.Reading.{part as part_of};
 
-use std::cmp::Ordering;
 use crate::part::part;
+use std::cmp::Ordering;
 
 pub fn compare(a: &[u8], b: &[u8]) -> Ordering
     ensures { result ≡ by_bytes.cmp a.now b.now }

@@ -2,13 +2,13 @@
 -- Assumes nothing.
 use mathlib.Core.Path.{◌≡◌, refl}
 use mathlib.Core.List.{List, []}
+use Rattle.std.specs.Prelude.{Ok}
 use Prim.Native.Nat.{ℕ, ◌-◌, ◌≤◌, ◌<◌}
 use native.Mathlib.Omega.{arith}
 use mir.Syntax.{w64}
 use mir.Val.{Fits}
 use lib.ListN.{length, drop}
 use lib.Seq.{take_at}
-use Rattle.wire.specs.declared.cursor.Cursor.TheVariants as C
 use Rattle.wire.specs.Codec.{Codec, OneForm}
 use Rattle.wire.specs.Number.{edge}
 use Rattle.wire.specs.Put.{Put}
@@ -25,7 +25,7 @@ pub put-nothing : {l : List ℕ} {at : ℕ} → length l < edge → Fits w64 at 
 put-nothing h k = record { to = omega (arith, k.fits); is = refl; short = h }
 
 -- the bytes that were read are those that are written of what they mean
-pub part-written : {A : Type 0} {img : List ℕ} (c : Codec A) → OneForm c → {n q : ℕ} {a : A} → n ≤ length img → Reads img c.read (C.At n) a (C.At q)
+pub part-written : {A : Type 0} {img : List ℕ} (c : Codec A) → OneForm c → {n q : ℕ} {a : A} → n ≤ length img → Reads img c.read n (Ok (a, q))
     → part img n (q - n) ≡ c.write a
 part-written {img = img} c one {n} {q} {a} h r =
     rw (one.forth _ _ _ r.same).0 (take_at (c.write a) (drop q img) (q - n) (omega (arith, reads-length c one h r)))

@@ -16,8 +16,7 @@ use Rattle.nodes.specs.declared.node.InodeMeta.{InodeMeta}
 
 -- the bit of a part: 1 if it is there
 abbrev pub part_bit : Option Part → ℕ
-part_bit (Some p) = 1
-part_bit None = 0
+part_bit o = count o
 
 -- "a mask (bit 0 upward: mode, owner, group, links, atime, mtime, ctime, created, attributes)": its upper five bits
 abbrev pub later_mask : AttrDelta → ℕ

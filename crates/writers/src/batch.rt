@@ -1,12 +1,13 @@
 // The head of a batch by value.
-ghost use Rattle.wire.specs.Reading.{Reads};
+ghost use Rattle.wire.specs.Reading.{Reads, meant};
 ghost use Rattle.wire.specs.Put.{Put};
 ghost use Rattle.survey.specs.Gathering.{batch_head};
 ghost use Rattle.writers.specs.Batches.{head_meant};
 
+use image::field::LAST_WORD;
 use survey::batch::read_reason;
-use wire::cursor::Cursor;
-use wire::number::{no_number, put_number, read_number};
+use wire::fault::Fault;
+use wire::number::{put_number, read_number};
 use wire::time::{Time, put_time, read_time};
 
 // What stands before the records of a batch. The reason is a number from 1 to 5.
@@ -19,37 +20,23 @@ pub struct BatchHead {
     pub committed: Time,
 }
 
-#[derive(Clone, Copy)]
-pub struct BatchHeadRead {
-    pub head: BatchHead,
-    pub next: Cursor,
-}
-
-// The head of the batch at `at`.
-pub fn read_batch_head(img: &[u8], at: Cursor) -> BatchHeadRead
-    ensures { Reads img.now batch_head.read at (head_meant result.head) result.next }
+// The head of the batch at `at`, and the place after it.
+pub fn read_batch_head(img: &[u8], at: usize) -> Result<(BatchHead, usize), Fault>
+    ensures { Reads img.now batch_head.read at (meant head_meant result) }
 {
-    let id = read_number(img, at, 0xFFFF_FFFF_FFFF_FFFF);
-    let named = id.next;
-    let bytes = read_number(img, named, 0xFFFF_FFFF);
-    let sized = bytes.next;
-    let operations = read_number(img, sized, 0xFFFF_FFFF);
-    let counted = operations.next;
-    let reason = read_reason(img, counted);
-    let reasoned = reason.next;
-    let moment = read_time(img, reasoned);
-    let committed = moment.time;
-    let next = moment.next;
-    BatchHeadRead {
-        head: BatchHead {
-            id: id.value,
-            bytes: bytes.value as u32,
-            operations: operations.value as u32,
-            reason: reason.value,
-            committed,
-        },
-        next,
-    }
+    let (id, named) = read_number(img, at, u64::MAX)?;
+    let (bytes, sized) = read_number(img, named, LAST_WORD)?;
+    let (operations, counted) = read_number(img, sized, LAST_WORD)?;
+    let (reason, reasoned) = read_reason(img, counted)?;
+    let (committed, next) = read_time(img, reasoned)?;
+    let head = BatchHead {
+        id,
+        bytes: bytes as u32,
+        operations: operations as u32,
+        reason,
+        committed,
+    };
+    Ok((head, next))
 }
 
 // Writes the head at `at`, and answers the place after it.

@@ -1,9 +1,10 @@
 // What stands after live, at the end of an image, by value.
-ghost use Rattle.wire.specs.Reading.{Reads};
+ghost use Rattle.wire.specs.Reading.{Reads, meant};
 ghost use Rattle.wire.specs.Put.{Put};
 ghost use Rattle.writers.specs.Tails.{tail as tailCodec, tail_meant};
 
-use wire::cursor::Cursor;
+use image::field::LAST_WORD;
+use wire::fault::Fault;
 use wire::number::{put_number, read_number};
 
 // The next id, the staged counts, and the request: 0, or a reason.
@@ -15,33 +16,21 @@ pub struct Tail {
     pub request: u64,
 }
 
-#[derive(Clone, Copy)]
-pub struct TailRead {
-    pub tail: Tail,
-    pub next: Cursor,
-}
-
-// The tail at `at`.
-pub fn read_tail(img: &[u8], at: Cursor) -> TailRead
-    ensures { Reads img.now tailCodec.read at (tail_meant result.tail) result.next }
+// The tail at `at`, and the place after it.
+pub fn read_tail(img: &[u8], at: usize) -> Result<(Tail, usize), Fault>
+    ensures { Reads img.now tailCodec.read at (meant tail_meant result) }
 {
-    let id = read_number(img, at, 0xFFFF_FFFF_FFFF_FFFF);
-    let named = id.next;
-    let bytes = read_number(img, named, 0xFFFF_FFFF);
-    let sized = bytes.next;
-    let operations = read_number(img, sized, 0xFFFF_FFFF);
-    let counted = operations.next;
-    let request = read_number(img, counted, 5);
-    let next = request.next;
-    TailRead {
-        tail: Tail {
-            next_id: id.value,
-            bytes: bytes.value as u32,
-            operations: operations.value as u32,
-            request: request.value,
-        },
-        next,
-    }
+    let (next_id, named) = read_number(img, at, u64::MAX)?;
+    let (bytes, sized) = read_number(img, named, LAST_WORD)?;
+    let (operations, counted) = read_number(img, sized, LAST_WORD)?;
+    let (request, next) = read_number(img, counted, 5)?;
+    let tail = Tail {
+        next_id,
+        bytes: bytes as u32,
+        operations: operations as u32,
+        request,
+    };
+    Ok((tail, next))
 }
 
 // Writes the tail at `at`, and answers the place after it.

@@ -6,9 +6,9 @@ ghost use Rattle.image.specs.Masks.{maybe};
 ghost use Rattle.image.specs.FieldLayout.{word, moment, inode as inodeCodec, name as nameCodec, target};
 ghost use Rattle.nodes.specs.Options.{text_at, text_of};
 
-use wire::text::{Part, put_text};
 use wire::number::put_number;
 use wire::part::part;
+use wire::text::{Part, put_text};
 use wire::time::{Time, put_time};
 
 // Writes the number, if it is there.

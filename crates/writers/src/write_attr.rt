@@ -3,43 +3,19 @@
 ghost use Rattle.std.specs.Prelude.{◌≤◌, ◌≡◌};
 ghost use Rattle.wire.specs.Combinators.{count};
 ghost use Rattle.wire.specs.Put.{Put};
-ghost use Rattle.writers.specs.Writes.{part_bit, later_mask, mask_of, times_bytes, attr_bytes, meta_bytes};
+ghost use Rattle.writers.specs.Writes.{later_mask, mask_of, times_bytes, attr_bytes, meta_bytes};
 
-use wire::text::Part;
 use crate::write::{put_option_time, put_option_u32};
 use nodes::attr::AttrDelta;
 use nodes::node::InodeMeta;
 use wire::number::put_number;
-use wire::time::{Time, put_time};
+use wire::time::put_time;
 
-// The bit that says whether a number is there.
-fn u32_bit(option: Option<u32>) -> u64
+// The bit that says whether a value is there.
+fn bit<T: Copy>(option: Option<T>) -> u64
     ensures { (result ≡ count option) × (result ≤ 1) }
 {
-    match option {
-        Some(_) => 1,
-        None => 0,
-    }
-}
-
-// The bit that says whether a time is there.
-fn time_bit(option: Option<Time>) -> u64
-    ensures { (result ≡ count option) × (result ≤ 1) }
-{
-    match option {
-        Some(_) => 1,
-        None => 0,
-    }
-}
-
-// The bit that says whether a part is there.
-fn part_bit(option: Option<Part>) -> u64
-    ensures { (result ≡ part_bit option) × (result ≤ 1) }
-{
-    match option {
-        Some(_) => 1,
-        None => 0,
-    }
+    option.is_some() as u64
 }
 
 // The upper five bits of the mask: the times, and the attribute changes.
@@ -51,8 +27,8 @@ fn later_mask(attr: AttrDelta) -> u64
     let ctime = attr.ctime;
     let created_at = attr.created_at;
     let xattrs = attr.xattrs;
-    let upper = time_bit(created_at) + 2 * part_bit(xattrs);
-    time_bit(atime) + 2 * (time_bit(mtime) + 2 * (time_bit(ctime) + 2 * upper))
+    let upper = bit(created_at) + 2 * bit(xattrs);
+    bit(atime) + 2 * (bit(mtime) + 2 * (bit(ctime) + 2 * upper))
 }
 
 // The mask that says which fields are there.
@@ -63,8 +39,8 @@ pub fn mask_of(attr: AttrDelta) -> u64
     let uid = attr.uid;
     let gid = attr.gid;
     let nlink = attr.nlink;
-    let upper = u32_bit(nlink) + 2 * later_mask(attr);
-    u32_bit(mode) + 2 * (u32_bit(uid) + 2 * (u32_bit(gid) + 2 * upper))
+    let upper = bit(nlink) + 2 * later_mask(attr);
+    bit(mode) + 2 * (bit(uid) + 2 * (bit(gid) + 2 * upper))
 }
 
 // Writes the times that are there.

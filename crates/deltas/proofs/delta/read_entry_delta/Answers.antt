@@ -1,10 +1,21 @@
-use Prim.Native.Nat.{◌-◌}
-use native.Mathlib.Omega.{arith}
-use Rattle.deltas.proofs.Deltas.{reads-tombstone, reads-delta}
+use Rattle.wire.proofs.Readers.{handed}
+use Rattle.deltas.proofs.Deltas.{code-stops, reads-tombstone, fields-stop, change-stops, reads-delta}
 use Rattle.deltas.proofs.delta.read_entry_delta.Goals as goal
 
+pub returns-in_err-code : goal.returns-in_err-code
+returns-in_err-code c = code-stops c.read_number.ensures c.in_err-code.was (handed c.from_residual.ensures)
+
 pub returns-then-code-eq0 : goal.returns-then-code-eq0
-returns-then-code-eq0 c = reads-tombstone c.read_number-code.ensures c.if-code-eq0.true
+returns-then-code-eq0 c = reads-tombstone c.read_number.ensures c.in_ok-code.was c.if-code-eq0.true
+
+pub returns-in_err-attr_delta : goal.returns-in_err-attr_delta
+returns-in_err-attr_delta c =
+    fields-stop c.read_number.ensures c.in_ok-code.was c.if-code-eq0.false c.read_attr_delta.ensures c.in_err-attr_delta.was (handed c.from_residual-in_err-attr_delta.ensures)
+
+pub returns-in_err-delta : goal.returns-in_err-delta
+returns-in_err-delta c =
+    change-stops c.read_number.ensures c.in_ok-code.was c.if-code-eq0.false c.read_attr_delta.ensures c.in_ok-attr_delta.was c.read_node_delta.ensures c.in_err-delta.was
+    (handed c.from_residual-in_err-delta.ensures)
 
 pub returns : goal.returns
-returns c = reads-delta c.read_number-code.ensures (c.read_number-code.result.value - 1) (omega (arith, c.if-code-eq0.false)) c.read_attr_delta-fields.ensures c.read_node_delta-node.ensures
+returns c = reads-delta c.read_number.ensures c.in_ok-code.was c.if-code-eq0.false c.read_attr_delta.ensures c.in_ok-attr_delta.was c.read_node_delta.ensures c.in_ok-delta.was

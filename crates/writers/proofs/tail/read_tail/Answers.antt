@@ -1,13 +1,9 @@
 use native.Mathlib.Omega.{arith}
 use Rattle.wire.proofs.Readers.{number-most}
-use Rattle.nodes.proofs.Values.{reads-pair}
 use Rattle.writers.proofs.tail.read_tail.Goals as goal
 
-pub overflow_cast-result : goal.overflow_cast-result
-overflow_cast-result c = omega (arith, number-most _ _ c.read_number-bytes.ensures)
+pub overflow_cast-tail : goal.overflow_cast-tail
+overflow_cast-tail c = omega (arith, number-most c.read_number-2.ensures c.in_ok-bytes.was)
 
-pub overflow_cast-result-2 : goal.overflow_cast-result-2
-overflow_cast-result-2 c = omega (arith, number-most _ _ c.read_number-operations.ensures)
-
-pub returns : goal.returns
-returns c = reads-pair _ _ c.read_number-id.ensures.reads (reads-pair _ _ c.read_number-bytes.ensures.reads (reads-pair _ _ c.read_number-operations.ensures.reads c.read_number-request.ensures.reads))
+pub overflow_cast-tail-2 : goal.overflow_cast-tail-2
+overflow_cast-tail-2 c = omega (arith, number-most c.read_number-3.ensures c.in_ok-operations.was)
