@@ -30,7 +30,7 @@ use Rattle.rules.proofs.Asked.{verdict-fine}
 use Rattle.writers.specs.Tails.{tail}
 use Rattle.change.specs.Sections.{between, Spans, tail_of, Stands, Opens, OpensInode}
 use Rattle.change.specs.declared.section.Sections.{Sections}
-use Rattle.stack.proofs.Opening.{image-opened}
+use Rattle.stack.proofs.Opening.{opens-stack}
 
 -- ---- bytes that stand in an image
 
@@ -153,7 +153,7 @@ module _ {img : List ℕ} {i : ℕ} {o : Result Survey Refusal} (j : Judges img 
   inode-opened d =
       let k = rw d at j in
       let s = verdict-fine img (sym k.verdict) in
-      record { verdict = k.verdict; sections = (s.0, survey-stands k.survey.surveys s.2 s.1); stack = image-opened k }
+      record { verdict = k.verdict; sections = (s.0, survey-stands k.survey.surveys s.2 s.1); stack = (opens-stack j d).stack }
 
   pub inode-unopened : {e : Refusal} {r : Result (Sections × InodeLayerStack) Refusal} → o ≡ Err e → r ≡ Err e → OpensInode img i r
   inode-unopened d z = let k = rw d at j in rw z (record { verdict = k.verdict; sections = tt; stack = tt })
