@@ -62,6 +62,10 @@ pub ruleset opens = (opens-stop, opens-stack, handed)
 
 -- ---- the calls over bytes
 
+fine-call : {img : List ℕ} {i : ℕ} {s : InodeLayerStack} (initial : Initial) (q : Ask) → inode_of q ≡ i → StackOf img i s → {st : Store} → length img ≤ 65536 → read_image img ≡ got st []
+    → over_image (ask initial q) img ≡ reply q (view initial (inode_of q) (unplaced (records_in img s)) (unplaced_node (node_in img s)))
+fine-call {img} initial q e k l g = rw (over-fine (ask initial q) img l g, k.records_are, k.node_is, ← e, placed-stack img (inode_of q) g, placed-node img (inode_of q) g)
+
 module _ {img : List ℕ} {i : ℕ} {o : Result InodeLayerStack Refusal} (h : Opens img i o) where
   -- where the image is refused, so is every call
   pub opened-refused : {A : Type 0} (f : Store → Answer A) {r : Refusal} → o ≡ Err r → over_image f img ≡ refused (number_of r)
@@ -74,7 +78,4 @@ module _ {img : List ℕ} {i : ℕ} {o : Result InodeLayerStack Refusal} (h : Op
   -- and a call answers by what its stack shows
   pub opened-fine : {s : InodeLayerStack} (initial : Initial) (q : Ask) → inode_of q ≡ i → o ≡ Ok s
       → over_image (ask initial q) img ≡ reply q (view initial (inode_of q) (unplaced (records_in img s)) (unplaced_node (node_in img s)))
-  opened-fine initial q e d =
-      let v = opened-store d in
-      let g = rw d at h in
-      rw (over-fine (ask initial q) img v.2 v.1, g.stack.records_are, g.stack.node_is, ← e, placed-stack img (inode_of q) v.1, placed-node img (inode_of q) v.1)
+  opened-fine initial q e d = let v = opened-store d in let g = rw d at h in fine-call initial q e g.stack v.2 v.1
