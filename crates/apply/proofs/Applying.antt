@@ -1,6 +1,6 @@
 -- What a delta makes of a node's kind.
 -- Assumes nothing.
-use Rattle.std.specs.Prelude.{None, Option, Some}
+use Rattle.std.specs.Prelude.{None, Option, Some, unwrap_or}
 use mathlib.Core.Path.{◌≡◌, refl}
 use mathlib.Core.List.{List, [], ◌∷◌}
 use Prim.Native.Nat.{ℕ}
@@ -20,7 +20,8 @@ use Rattle.nodes.specs.declared.node.NodeKind.TheVariants as K
 use Rattle.deltas.specs.contracts.delta.NodeDelta as delta
 use Rattle.nodes.specs.contracts.node.NodeKind as kind
 use Rattle.deltas.proofs.Others.{one-delta, one-kind, not_directory, not_symlink}
-use Rattle.apply.specs.Folded.{body_with, on_entries, part_or, with_parent, with_size, with_target, AppliesMeta, AppliesKind, AppliesNode}
+use Rattle.attrs.proofs.Others.{over_old}
+use Rattle.apply.specs.Folded.{body_with, on_entries, with_parent, with_size, with_target, AppliesMeta, AppliesKind, AppliesNode}
 
 -- ---- what the last arm of a match says
 
@@ -47,7 +48,7 @@ other-kind img k es = one-delta is_special (λ n. body_with img k (on_entries (c
 
 pub on-directory : (img : List ℕ) (o : Option ℕ) (added : Entries) (removed : Names) (es : Entries) (k : NodeKind)
     → body_with img (with_parent o k) (add_all added (remove_all removed es)) ≡ on_body (directory o added removed) (body_with img k es)
-on-directory img o added removed es (K.Directory parent p) = refl
+on-directory img o added removed es (K.Directory parent p) = rw over_old
 on-directory img o added removed es (K.File size) = refl
 on-directory img o added removed es (K.Symlink t) = refl
 on-directory img o added removed es K.Fifo = refl
@@ -57,14 +58,14 @@ on-directory img o added removed es K.Socket = refl
 
 pub on-file : (img : List ℕ) (o : Option ℕ) (es : Entries) (k : NodeKind) → body_with img (with_size o k) es ≡ on_body (file o) (body_with img k es)
 on-file img o es (K.Directory parent p) = refl
-on-file img o es (K.File size) = refl
+on-file img o es (K.File size) = rw over_old
 on-file img o es (K.Symlink t) = refl
 on-file img o es K.Fifo = refl
 on-file img o es (K.CharDevice rdev) = refl
 on-file img o es (K.BlockDevice rdev) = refl
 on-file img o es K.Socket = refl
 
-text-or : (img : List ℕ) (o : Option Part) (t : Part) → text_at img (part_or o t) ≡ given (text_of img o) (text_at img t)
+text-or : (img : List ℕ) (o : Option Part) (t : Part) → text_at img (unwrap_or o t) ≡ given (text_of img o) (text_at img t)
 text-or img (Some p) t = refl
 text-or img None t = refl
 

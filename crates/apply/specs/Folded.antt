@@ -1,13 +1,13 @@
 -- What fold makes of a node by value; its attributes and entries are lists beside it. Document 01: "Delta on nothing: a node of initial values
 -- (parent 1, empty target), then applied. Delta of the node's kind: applied; created time is dropped, device kept."
-use Rattle.std.specs.Prelude.{◌≡◌, List, ℕ, None, Option, Some}
+use Rattle.std.specs.Prelude.{◌≡◌, List, ℕ, Option, unwrap_or}
 use Rattle.wire.specs.Orders.{by_bytes}
 use Rattle.wire.specs.Maps.{meet, empty}
 use Rattle.image.specs.Meaning as M
 use Rattle.image.specs.Meaning.{Entries, Attributes, Body, Change, directory, file, symlink, special, pipe, character, block, socket, changed_kind}
 use Rattle.image.specs.declared.name.Under.TheVariants as U
 use Rattle.rules.specs.Initial.{usual}
-use Rattle.rules.specs.Fold.{given, add_all, remove_all, alter_all, on_meta, on_body, applied, first_meta, first_body, first_node}
+use Rattle.rules.specs.Fold.{add_all, remove_all, alter_all, on_meta, on_body, applied, first_meta, first_body, first_node}
 use Rattle.nodes.specs.Options.{text_at}
 use Rattle.nodes.specs.Listed.{list_of}
 use Rattle.nodes.specs.Attrs.{fields_meant}
@@ -49,12 +49,8 @@ on_entries (special s device) es = es
 
 -- ---- what the code makes of a node
 
-abbrev pub part_or : Option Part → Part → Part
-part_or (Some p) q = p
-part_or None q = q
-
 abbrev pub with_parent : Option ℕ → NodeKind → NodeKind
-with_parent o (K.Directory parent p) = K.Directory (given o parent) p
+with_parent o (K.Directory parent p) = K.Directory (unwrap_or o parent) p
 with_parent o (K.File size) = K.File size
 with_parent o (K.Symlink t) = K.Symlink t
 with_parent o K.Fifo = K.Fifo
@@ -64,7 +60,7 @@ with_parent o K.Socket = K.Socket
 
 abbrev pub with_size : Option ℕ → NodeKind → NodeKind
 with_size o (K.Directory parent p) = K.Directory parent p
-with_size o (K.File size) = K.File (given o size)
+with_size o (K.File size) = K.File (unwrap_or o size)
 with_size o (K.Symlink t) = K.Symlink t
 with_size o K.Fifo = K.Fifo
 with_size o (K.CharDevice rdev) = K.CharDevice rdev
@@ -74,7 +70,7 @@ with_size o K.Socket = K.Socket
 abbrev pub with_target : Option Part → NodeKind → NodeKind
 with_target o (K.Directory parent p) = K.Directory parent p
 with_target o (K.File size) = K.File size
-with_target o (K.Symlink t) = K.Symlink (part_or o t)
+with_target o (K.Symlink t) = K.Symlink (unwrap_or o t)
 with_target o K.Fifo = K.Fifo
 with_target o (K.CharDevice rdev) = K.CharDevice rdev
 with_target o (K.BlockDevice rdev) = K.BlockDevice rdev

@@ -1,9 +1,8 @@
 // What fold makes of a node by value. Its attributes and entries are lists beside it.
 ghost use Rattle.std.specs.Prelude.{◌≡◌};
-ghost use Rattle.rules.specs.Fold.{given};
-ghost use Rattle.apply.specs.Folded.{part_or, with_parent, with_size, with_target, FirstMeta, AppliesMeta, FirstKind, AppliesKind, FirstNode, AppliesNode};
+ghost use Rattle.apply.specs.Folded.{with_parent, with_size, with_target, FirstMeta, AppliesMeta, FirstKind, AppliesKind, FirstNode, AppliesNode};
 
-use attrs::attr::{epoch, initial_nlink, initial_perm, mode_or, time_or, u32_or};
+use attrs::attr::{epoch, initial_nlink, initial_perm, mode_or};
 use attrs::node::delta_type;
 use deltas::delta::{NodeDelta, attr_delta};
 use merge::source::no_value;
@@ -29,25 +28,19 @@ fn initial_meta(delta: NodeDelta) -> InodeMeta
 }
 
 // The fields that a delta has, over those that were there. The created time is dropped.
+#[tactic(auto, using(attrs::proofs::Others::over_old))]
 fn apply_to_meta(change: AttrDelta, meta: InodeMeta) -> InodeMeta
     ensures { AppliesMeta change meta result }
 {
-    let mode = change.mode;
-    let nlink = change.nlink;
-    let uid = change.uid;
-    let gid = change.gid;
-    let atime = change.atime;
-    let mtime = change.mtime;
-    let ctime = change.ctime;
     let xattrs = meta.xattrs;
     InodeMeta {
-        perm: mode_or(mode, meta.perm),
-        nlink: u32_or(nlink, meta.nlink),
-        uid: u32_or(uid, meta.uid),
-        gid: u32_or(gid, meta.gid),
-        atime: time_or(atime, meta.atime),
-        mtime: time_or(mtime, meta.mtime),
-        ctime: time_or(ctime, meta.ctime),
+        perm: mode_or(change.mode, meta.perm),
+        nlink: change.nlink.unwrap_or(meta.nlink),
+        uid: change.uid.unwrap_or(meta.uid),
+        gid: change.gid.unwrap_or(meta.gid),
+        atime: change.atime.unwrap_or(meta.atime),
+        mtime: change.mtime.unwrap_or(meta.mtime),
+        ctime: change.ctime.unwrap_or(meta.ctime),
         xattrs,
     }
 }
@@ -71,31 +64,13 @@ fn initial_kind(delta: NodeDelta) -> NodeKind
     }
 }
 
-fn u64_or(option: Option<u64>, old: u64) -> u64
-    ensures { result ≡ given option old }
-{
-    match option {
-        Some(new) => new,
-        None => old,
-    }
-}
-
-fn part_or(option: Option<Part>, old: Part) -> Part
-    ensures { result ≡ part_or option old }
-{
-    match option {
-        Some(new) => new,
-        None => old,
-    }
-}
-
 // A directory with the parent, if there is one.
 fn with_parent(kind: NodeKind, option: Option<u64>) -> NodeKind
     ensures { result ≡ with_parent option kind }
 {
     match kind {
         NodeKind::Directory { parent, entries } => NodeKind::Directory {
-            parent: u64_or(option, parent),
+            parent: option.unwrap_or(parent),
             entries,
         },
         _ => kind,
@@ -108,7 +83,7 @@ fn with_size(kind: NodeKind, option: Option<u64>) -> NodeKind
 {
     match kind {
         NodeKind::File { size } => NodeKind::File {
-            size: u64_or(option, size),
+            size: option.unwrap_or(size),
         },
         _ => kind,
     }
@@ -120,7 +95,7 @@ fn with_target(kind: NodeKind, option: Option<Part>) -> NodeKind
 {
     match kind {
         NodeKind::Symlink { target } => NodeKind::Symlink {
-            target: part_or(option, target),
+            target: option.unwrap_or(target),
         },
         _ => kind,
     }
@@ -131,18 +106,9 @@ fn apply_to_kind(delta: NodeDelta, kind: NodeKind) -> NodeKind
     ensures { AppliesKind delta kind result }
 {
     match delta {
-        NodeDelta::Directory(directory) => {
-            let parent = directory.parent;
-            with_parent(kind, parent)
-        }
-        NodeDelta::File(file) => {
-            let size = file.size;
-            with_size(kind, size)
-        }
-        NodeDelta::Symlink(symlink) => {
-            let target = symlink.target;
-            with_target(kind, target)
-        }
+        NodeDelta::Directory(directory) => with_parent(kind, directory.parent),
+        NodeDelta::File(file) => with_size(kind, file.size),
+        NodeDelta::Symlink(symlink) => with_target(kind, symlink.target),
         _ => kind,
     }
 }

@@ -2,6 +2,7 @@
 -- Assumes nothing.
 use mathlib.Core.Path.{◌≡◌, refl}
 use mathlib.Core.List.{List, [], ◌∷◌}
+use Rattle.std.specs.Prelude.{None, Option, Some, unwrap_or}
 use Prim.Native.Nat.{ℕ}
 use denote.Enum.Declared.{tag_of}
 use Rattle.rules.specs.Fold.{given}
@@ -37,3 +38,9 @@ other-base-size img = one-kind not_sized (λ k. 0 ≡ base_size (body_meant img 
 
 pub other-perm : (img : List ℕ) (k : NodeKind) (perm : ℕ) → OneOf not_symlink (tag_of kind.the_type k) → perm ≡ base_perm (body_meant img k) perm
 other-perm img k perm = one-kind not_symlink (λ k. perm ≡ base_perm (body_meant img k) perm) (λ parent es. refl) (λ size. refl) tt refl (λ rdev. refl) (λ rdev. refl) refl k
+
+-- ---- a field of a delta over the old one
+
+pub over_old : {A : Type 0} (o : Option A) (a : A) → unwrap_or o a ≡ given o a
+over_old (Some x) a = refl
+over_old None a = refl

@@ -95,32 +95,11 @@ pub fn initial_attr(delta: NodeDelta, ino: u64) -> FileAttr
     }
 }
 
-pub fn u32_or(option: Option<u32>, old: u32) -> u32
-    ensures { result ≡ given option old }
-{
-    match option {
-        Some(new) => new,
-        None => old,
-    }
-}
-
 // Of a mode only the low twelve bits count.
 pub fn mode_or(option: Option<u32>, old: u32) -> u32
     ensures { result ≡ given (cut option) old }
 {
-    match option {
-        Some(new) => new % 4096,
-        None => old,
-    }
-}
-
-pub fn time_or(option: Option<Time>, old: Time) -> Time
-    ensures { result ≡ given option old }
-{
-    match option {
-        Some(new) => new,
-        None => old,
-    }
+    option.map_or(old, |new| new % 4096)
 }
 
 // A file's size or the length of a link's target; other deltas keep the old size.
@@ -128,50 +107,32 @@ fn size_or(delta: NodeDelta, old: u64) -> u64
     ensures { Sized delta old result }
 {
     match delta {
-        NodeDelta::File(file) => {
-            let size = file.size;
-            match size {
-                Some(new) => new,
-                None => old,
-            }
-        }
-        NodeDelta::Symlink(symlink) => {
-            let target = symlink.target;
-            match target {
-                Some(text) => text.length as u64,
-                None => old,
-            }
-        }
+        NodeDelta::File(file) => file.size.unwrap_or(old),
+        NodeDelta::Symlink(symlink) => symlink.target.map_or(old, |text| text.length as u64),
         _ => old,
     }
 }
 
 // The attributes with the fields that a delta has; type and device stay.
+#[tactic(auto, using(crate::proofs::Others::over_old))]
 pub fn applied(delta: NodeDelta, attr: FileAttr) -> FileAttr
     ensures { Applies delta attr result }
 {
     let file_type = attr.file_type;
     let rdev = attr.rdev;
     let change = attr_delta(delta);
-    let mode = change.mode;
-    let nlink = change.nlink;
-    let uid = change.uid;
-    let gid = change.gid;
-    let atime = change.atime;
-    let mtime = change.mtime;
-    let ctime = change.ctime;
     FileAttr {
         ino: attr.ino,
         file_type,
-        perm: mode_or(mode, attr.perm),
-        nlink: u32_or(nlink, attr.nlink),
-        uid: u32_or(uid, attr.uid),
-        gid: u32_or(gid, attr.gid),
+        perm: mode_or(change.mode, attr.perm),
+        nlink: change.nlink.unwrap_or(attr.nlink),
+        uid: change.uid.unwrap_or(attr.uid),
+        gid: change.gid.unwrap_or(attr.gid),
         rdev,
         size: size_or(delta, attr.size),
-        atime: time_or(atime, attr.atime),
-        mtime: time_or(mtime, attr.mtime),
-        ctime: time_or(ctime, attr.ctime),
+        atime: change.atime.unwrap_or(attr.atime),
+        mtime: change.mtime.unwrap_or(attr.mtime),
+        ctime: change.ctime.unwrap_or(attr.ctime),
     }
 }
 

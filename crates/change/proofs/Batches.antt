@@ -5,13 +5,13 @@ use mathlib.Core.Path.{◌≡◌, refl, sym, ap, ◌∙◌}
 use mathlib.Core.List.{List, [], ◌∷◌, ◌++◌, append-nil, append_assoc}
 use Prim.Native.Nat.{ℕ}
 use lib.ListN.{length}
-use Rattle.wire.specs.declared.cursor.Cursor.{Cursor}
-use Rattle.wire.specs.declared.cursor.Cursor.TheVariants.{At, Stop}
-use Rattle.wire.specs.Parse.{Parsed, got, bind, never-got}
+use Rattle.std.specs.Prelude.{Result, Ok, Err}
+use Rattle.wire.specs.declared.fault.Fault.{Fault}
+use Rattle.wire.specs.Parse.{Parsed, got, bind}
 use Rattle.wire.specs.Number.{number_bytes}
 use Rattle.wire.specs.Lists.{chain_write}
-use Rattle.wire.specs.Reading.{Reads, run, give}
-use Rattle.wire.proofs.Readers.{read-then}
+use Rattle.wire.specs.Reading.{Reads, meant}
+use Rattle.wire.proofs.Readers.{read-then, read-stop, handed}
 use Rattle.image.specs.Meaning.{Batch}
 use Rattle.image.specs.Fits.{FitsBatch}
 use Rattle.image.specs.FieldLayout.{inode, word, moment}
@@ -22,24 +22,33 @@ use Rattle.passes.specs.Held.{Finds}
 use Rattle.image.specs.Places.{Ends}
 use Rattle.passes.specs.declared.inode.Held.TheVariants as H
 use Rattle.image.proofs.Passing.{ends-got, ends-fault}
+use Rattle.writers.specs.Batches.{head_meant}
+use Rattle.writers.specs.declared.batch.BatchHead.{BatchHead}
 use Rattle.change.specs.Batches.{HeadParts, pass_batch}
 
 -- ---- one batch
 
 -- what is passed, with another value
-ends-kept : {A B : Type 0} {img : List ℕ} {p : List ℕ → Parsed A} (at next : Cursor) (b : B) → Ends img p at next
-    → Reads img (λ s. bind (p s) (λ l q. got b q)) at b next
-ends-kept {img = img} {p} at next b h = record { same = go at next h; within = h.within }
-  where
-    go : (at next : Cursor) → Ends img p at next → run img (λ s. bind (p s) (λ l q. got b q)) at ≡ give img b next
-    go (At n) (At q) h = rw (ends-got h).1
-    go (At n) (Stop f) h = rw (ends-fault h)
-    go (Stop x) (At q) h = never-got h.same
-    go (Stop x) (Stop y) h = let d = h.same in cc
+ends-kept : {A B : Type 0} {img : List ℕ} {p : List ℕ → Parsed A} {at next : ℕ} (b : B) → Ends img p at (Ok next)
+    → Reads img (λ s. bind (p s) (λ l q. got b q)) at (Ok (b, next))
+ends-kept b h = record { same = rw (ends-got h).1; within = h.within }
 
-pub batch-passed : {img : List ℕ} {at mid next : Cursor} {h : HeadParts} {place : Option ℕ} → Reads img batch_head.read at h mid
-    → Finds img H.Record 0 mid place next → Reads img pass_batch at h next
-batch-passed {img} {mid = mid} {next} {h} r f = read-then img batch_head.read _ r (ends-kept mid next h f.ends)
+kept-stop : {A B : Type 0} {img : List ℕ} {p : List ℕ → Parsed A} {at : ℕ} {f : Fault} (b : B) → Ends img p at (Err f)
+    → Reads img (λ s. bind (p s) (λ l q. got b q)) at (Err f)
+kept-stop b h = record { same = rw (ends-fault h); within = tt }
+
+module _ {img : List ℕ} {at : ℕ} {o : Result (BatchHead × ℕ) Fault} (r : Reads img batch_head.read at (meant head_meant o)) where
+  pub batch-unread : {f : Fault} {u : Result (BatchHead × ℕ) Fault} → o ≡ Err f → u ≡ Err f → Reads img pass_batch at (meant head_meant u)
+  batch-unread d e = rw e (read-stop _ (rw d at r))
+
+  module _ {h : BatchHead} {mid : ℕ} (d : o ≡ Ok (h, mid)) {w : Result (Option ℕ × ℕ) Fault} (found : Finds img H.Record 0 mid w) where
+    pub batch-unpassed : {f : Fault} {u : Result (BatchHead × ℕ) Fault} → w ≡ Err f → u ≡ Err f → Reads img pass_batch at (meant head_meant u)
+    batch-unpassed c e = let g = rw c at found in rw e (read-then _ (rw d at r) (kept-stop (head_meant h) g.ends))
+
+    pub batch-passed : {place : Option ℕ} {next : ℕ} → w ≡ Ok (place, next) → Reads img pass_batch at (Ok (head_meant h, next))
+    batch-passed c = let g = rw c at found in read-then _ (rw d at r) (ends-kept (head_meant h) g.ends)
+
+pub ruleset passes_batch = (batch-unread, batch-unpassed, batch-passed, handed)
 
 -- ---- what is written of batches
 

@@ -1,6 +1,7 @@
 -- Cutting a rising list at a key.
 -- Assumes nothing.
-use Rattle.std.specs.Prelude.{None, Option, Some}
+use Rattle.std.specs.Prelude.{None, Option, Some, Result, Ok, Err}
+use Rattle.std.specs.Result.{result_unwrap_or}
 use mathlib.Core.Path.{◌≡◌, refl, sym, ap, subst, ◌∙◌}
 use mathlib.Core.List.{List, [], ◌∷◌, ◌++◌, append_assoc, append-nil}
 use Prim.Native.Nat.{ℕ, ◌+◌, ◌-◌, ◌≤◌, ◌<◌}
@@ -8,15 +9,14 @@ use native.Mathlib.Omega.{arith}
 use lib.ListN.{length, drop, length-append}
 use Rattle.std.specs.declared.cmp.Ordering.{Ordering}
 use Rattle.std.specs.declared.cmp.Ordering.TheVariants.{Less, Equal, Greater}
-use Rattle.wire.specs.declared.cursor.Cursor.{Cursor}
-use Rattle.wire.specs.declared.cursor.Cursor.TheVariants.{At}
+use Rattle.wire.specs.declared.fault.Fault.{Fault}
 use Rattle.wire.specs.Order.{Order}
 use Rattle.wire.specs.Maps.{Map, get, put, map-ext, get-put}
 use Rattle.wire.specs.Rows.{Under, Rising, lookup, choose}
 use Rattle.wire.specs.Number.{number_bytes, number_read, number_to}
 use Rattle.wire.specs.Codec.{Codec}
 use Rattle.wire.specs.Lists.{Every, FitsRow, chain_write, row, onto, last_count}
-use Rattle.wire.specs.Reading.{Reads, Answers, place_at}
+use Rattle.wire.specs.Reading.{Reads}
 use Rattle.wire.proofs.Readers.{number-most}
 use Rattle.image.specs.FieldLayout.{listed}
 use Rattle.image.specs.Places.{Ends, Holds}
@@ -25,7 +25,7 @@ use Rattle.change.specs.Cuts.{three, rows_below, row_here, rows_above, rows_byte
 use Rattle.change.specs.Edits.{is_there, row_if, edit_rows}
 use Rattle.change.specs.declared.cut.Cut.{Cut}
 use Rattle.change.proofs.EditRows.{edit-count}
-use Rattle.change.proofs.Sections.{span-back, span-front, span-both, span-reads, Past, ends-past}
+use Rattle.change.proofs.Sections.{span-back, span-front, span-both, span-reads, value-is, Past, ends-past}
 use Rattle.wire.specs.RowLaws.{lookup-under, under-below}
 
 -- ---- what is written of rows
@@ -116,83 +116,89 @@ module _ {K A : Type 0} (O : Order K) (key : Codec K) (value : Codec A) where
     row-span : Spans img here (key_bytes ++ record_bytes) (here + length (key_bytes ++ record_bytes))
     row-span = span-front (key_bytes ++ record_bytes) (bytes_of m) rows-span
 
-    module _ {v : K} (start : Cursor) (a : Reads img key.read (At here) v start) where
-      key-read : (v ≡ r.0) × (start ≡ At (here + length key_bytes))
-      key-read = span-reads key (span-front key_bytes record_bytes row-span) c.fit.0.0 start a
+    module _ {o : Result (K × ℕ) Fault} (a : Reads img key.read here o) {x : K × ℕ} (d : K × ℕ) (z : x ≡ result_unwrap_or o d) where
+      key-read : x ≡ (r.0, here + length key_bytes)
+      key-read = value-is d (span-reads key (span-front key_bytes record_bytes row-span) c.fit.0.0 a) z
 
-      module _ (next : Cursor) (p : Ends img value.read start next) where
-        record-past : Past img (here + length key_bytes) record_bytes next (drop (here + length (key_bytes ++ record_bytes)) img)
+      key-is : x.0 ≡ r.0
+      key-is = ap (λ (x : K × ℕ). x.0) key-read
+
+      start-at : x.1 ≡ here + length key_bytes
+      start-at = ap (λ (x : K × ℕ). x.1) key-read
+
+      module _ {u : Result ℕ Fault} (p : Ends img value.read x.1 u) {next : ℕ} (dy : ℕ) (y : next ≡ result_unwrap_or u dy) where
+        record-past : Past img (here + length key_bytes) record_bytes (drop (here + length (key_bytes ++ record_bytes)) img) next
         record-past =
             let b = span-back key_bytes record_bytes row-span in
-            ends-past value (here + length key_bytes) next (omega (arith, b.ends, b.within)) c.fit.0.1 b.is (rw key-read.1 at p)
+            let q = ends-past value (here + length key_bytes) (omega (arith, b.ends, b.within)) c.fit.0.1 b.is (rw start-at at p) in
+            let n : next ≡ q.0 = value-is dy q.1 y in
+            rw n q.2
 
-        start-at : place_at start ≡ here + length key_bytes
-        start-at = ap place_at key-read.1
-
-        row_ends : place_at next ≡ here + length (key_bytes ++ record_bytes)
+        row_ends : next ≡ here + length (key_bytes ++ record_bytes)
         row_ends = omega (arith, record-past.spans.ends, length-append key_bytes record_bytes)
 
-        row-to : Spans img here (key_bytes ++ record_bytes) (place_at next)
+        row-to : Spans img here (key_bytes ++ record_bytes) next
         row-to = rw row_ends row-span
 
-        rest-to : Spans img (place_at next) (bytes_of m) to
+        rest-to : Spans img next (bytes_of m) to
         rest-to = rw row_ends (span-back (key_bytes ++ record_bytes) (bytes_of m) rows-span)
 
-        record-span : Spans img (place_at start) record_bytes (place_at next)
+        record-span : Spans img x.1 record_bytes next
         record-span = rw start-at record-past.spans
 
-        record-held : Holds img value.read (Some (place_at start)) (Some r.1)
-        record-held = (drop (place_at next) img, rw (start-at, record-past.spans.is) (value.back r.1 (drop (place_at next) img) c.fit.0.1))
+        record-held : Holds img value.read (Some x.1) (Some r.1)
+        record-held = (drop next img, rw (start-at, record-past.spans.is) (value.back r.1 (drop next img) c.fit.0.1))
 
-  module _ {img : List ℕ} {first n : ℕ} {i v : K} {here left : ℕ} (w : Cutting img first n i here left) (some_left : 0 < left) (start : Cursor) (a : Reads img key.read (At here) v start) where
+  module _ {img : List ℕ} {first n : ℕ} {i : K} {here left : ℕ} (w : Cutting img first n i here left) (some_left : 0 < left)
+      {o : Result (K × ℕ) Fault} (a : Reads img key.read here o) {x : K × ℕ} (d : K × ℕ) (z : x ≡ result_unwrap_or o d) where
     -- the key is below it
-    pub cut-over : O.cmp i v ≡ Less → Cuts O key value img first n i (no_row n first here)
+    pub cut-over : O.cmp i x.0 ≡ Less → Cuts O key value img first n i (no_row n first here)
     unfolding rows_below row_here rows_above
     cut-over h = record { from = refl; counts = refl; cut = λ l to e f s. go l to e (w l to e f s).0 (w l to e f s).1 }
       where
         go : (l : List (K × A)) (to : ℕ) → n ≡ length l → (rest : List (K × A)) → Come img first i here left l to rest → CutIs O key value img i l to (no_row n first here)
         go l to e [] c = absurd (omega (arith, c.many))
         go l to e (r ∷ m) c =
-            let z : O.cmp i r.0 ≡ Less = rw (← (key-read c start a).0) h in
-            ended e c (rw z) (rw z) (rw z)
+            let v : O.cmp i r.0 ≡ Less = rw (← (key-is c a d z)) h in
+            ended e c (rw v) (rw v) (rw v)
 
-    module _ (next : Cursor) (p : Ends img value.read start next) where
+    module _ {u : Result ℕ Fault} (p : Ends img value.read x.1 u) {next : ℕ} (dy : ℕ) (y : next ≡ result_unwrap_or u dy) where
       -- it is the key's
-      pub cut-found : O.cmp i v ≡ Equal → Cuts O key value img first n i (record { count = n; first = first; row = here; after = place_at next; place = Some (place_at start) })
+      pub cut-found : O.cmp i x.0 ≡ Equal → Cuts O key value img first n i (record { count = n; first = first; row = here; after = next; place = Some x.1 })
       unfolding rows_below row_here rows_above rows_bytes
       cut-found h = record { from = refl; counts = refl; cut = λ l to e f s. go l to e (w l to e f s).0 (w l to e f s).1 }
         where
           go : (l : List (K × A)) (to : ℕ) → n ≡ length l → (rest : List (K × A)) → Come img first i here left l to rest
-              → CutIs O key value img i l to (record { count = n; first = first; row = here; after = place_at next; place = Some (place_at start) })
+              → CutIs O key value img i l to (record { count = n; first = first; row = here; after = next; place = Some x.1 })
           go l to e [] c = absurd (omega (arith, c.many))
           go l to e (r ∷ m) c =
-              let z : O.cmp i r.0 ≡ Equal = rw (← (key-read c start a).0) h in
+              let v : O.cmp i r.0 ≡ Equal = rw (← (key-is c a d z)) h in
               record {
                 count = e;
-                below = rw (c.below, z, append-nil c.passed) c.before;
-                here = rw (c.own, z, append-nil (key_bytes c ++ record_bytes c)) (row-to c start a next p);
-                above = rw (c.above, z) (rest-to c start a next p);
-                holds = rw (c.own, z) (record-held c start a next p);
-                stands = rw (c.own, z) (record-span c start a next p);
+                below = rw (c.below, v, append-nil c.passed) c.before;
+                here = rw (c.own, v, append-nil (key_bytes c ++ record_bytes c)) (row-to c a d z p dy y);
+                above = rw (c.above, v) (rest-to c a d z p dy y);
+                holds = rw (c.own, v) (record-held c a d z p dy y);
+                stands = rw (c.own, v) (record-span c a d z p dy y);
               }
 
       -- the key is above it
-      pub cut_on : O.cmp i v ≡ Greater → Cutting img first n i (place_at next) (left - 1)
+      pub cut_on : O.cmp i x.0 ≡ Greater → Cutting img first n i next (left - 1)
       unfolding rows_below row_here rows_above rows_bytes
       cut_on h l to e f s = go (w l to e f s).0 (w l to e f s).1
         where
-          go : (rest : List (K × A)) → Come img first i here left l to rest → (rest : List (K × A)) × Come img first i (place_at next) (left - 1) l to rest
+          go : (rest : List (K × A)) → Come img first i here left l to rest → (rest : List (K × A)) × Come img first i next (left - 1) l to rest
           go [] c = absurd (omega (arith, c.many))
           go (r ∷ m) c =
-              let z : O.cmp i r.0 ≡ Greater = rw (← (key-read c start a).0) h in (
+              let v : O.cmp i r.0 ≡ Greater = rw (← (key-is c a d z)) h in (
                 m,
                 record {
                   passed = c.passed ++ (r ∷ []);
-                  below = c.below ∙ rw z (sym (append_assoc c.passed (r ∷ []) (rows_below O i m)));
-                  own = c.own ∙ rw z;
-                  above = c.above ∙ rw z;
-                  before = rw (rows_append O key value c.passed (r ∷ []), append-nil (key_bytes c ++ record_bytes c)) (span-both c.before (row-to c start a next p));
-                  behind = rest-to c start a next p;
+                  below = c.below ∙ rw v (sym (append_assoc c.passed (r ∷ []) (rows_below O i m)));
+                  own = c.own ∙ rw v;
+                  above = c.above ∙ rw v;
+                  before = rw (rows_append O key value c.passed (r ∷ []), append-nil (key_bytes c ++ record_bytes c)) (span-both c.before (row-to c a d z p dy y));
+                  behind = rest-to c a d z p dy y;
                   many = omega (arith, c.many);
                   fit = c.fit.1;
                 },
@@ -200,16 +206,23 @@ module _ {K A : Type 0} (O : Order K) (key : Codec K) (value : Codec A) where
 
   -- ---- the whole list
 
-  pub cut_list_lem : {img : List ℕ} {at n : ℕ} {i : K} {r : Cut} (next : Cursor) → Answers img (number_read last_count) (At at) 0 n next → Cuts O key value img (place_at next) n i r
-      → CutsList O key value img at i r
-  cut_list_lem {img} {at} {n} {i} {r} next a c = record { few = rw c.counts (number-most (At at) next a); cut = go }
+  pub cut_list_lem : {img : List ℕ} {at : ℕ} {i : K} {r : Cut} {o : Result (ℕ × ℕ) Fault} {x : ℕ × ℕ} → Reads img (number_read last_count) at o → x ≡ result_unwrap_or o (0, 0)
+      → Cuts O key value img x.1 x.0 i r → CutsList O key value img at i r
+  cut_list_lem {img} {at} {i} {r} {o} {x} a z c = record { few = rw c.counts (few o a z); cut = go }
     where
+      few : (o : Result (ℕ × ℕ) Fault) → Reads img (number_read last_count) at o → x ≡ result_unwrap_or o (0, 0) → x.0 ≤ last_count
+      few (Ok y) a z = let e : x.0 ≡ y.0 = cc in omega (arith, e, number-most a refl)
+      few (Err f) a z = let e : x.0 ≡ 0 = cc in omega (arith, e)
+
       go : (m : Map O A) (to : ℕ) → (listed O key value).Fits m → Spans img at ((listed O key value).write m) to → CutIs O key value img i m.rows to r
       go m to f s =
           let head = number_bytes (length m.rows) in
           let w : Spans img at (head ++ bytes_of m.rows) to = subst (λ (t : List ℕ). Spans img at (head ++ t) to) (chain-rows O key value None m.rows) s in
-          let k = span-reads (number_to last_count refl) (span-front head (bytes_of m.rows) w) (omega (arith, f.count)) next a.reads in
-          c.cut m.rows to k.0 f.each (rw (ap place_at k.1) (span-back head (bytes_of m.rows) w))
+          let k = span-reads (number_to last_count refl) (span-front head (bytes_of m.rows) w) (omega (arith, f.count)) a in
+          let e : x ≡ (length m.rows, at + length head) = value-is (0, 0) k z in
+          let e0 : x.0 ≡ length m.rows = ap (λ (x : ℕ × ℕ). x.0) e in
+          let e1 : x.1 ≡ at + length head = ap (λ (x : ℕ × ℕ). x.1) e in
+          c.cut m.rows to e0 f.each (rw e1 (span-back head (bytes_of m.rows) w))
 
 -- ---- how many rows there are
 

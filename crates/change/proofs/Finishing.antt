@@ -1,7 +1,8 @@
 -- How a change ends: it was refused, or its new image was measured, and then had no room or was written.
 -- Assumes nothing.
-use Rattle.std.specs.Prelude.{None, Some}
-use mathlib.Core.Path.{◌≡◌, refl, ◌∙◌}
+use Rattle.std.specs.Prelude.{None, Some, Result, Ok, Err}
+use Rattle.std.specs.Result.{result_err}
+use mathlib.Core.Path.{◌≡◌, refl, sym, ap, ◌∙◌}
 use mathlib.Core.Bool.{Bool, true, false, ◌||◌, ◌&&◌, cond}
 use mathlib.Core.List.{List}
 use Prim.Native.Nat.{ℕ, ◌+◌, ◌≤◌, min}
@@ -13,7 +14,9 @@ use Rattle.wire.specs.Number.{edge}
 use Rattle.wire.specs.Put.{Put}
 use Rattle.wire.proofs.Puts.{put_whole}
 use Rattle.image.specs.Meaning.{Store}
-use Rattle.survey.specs.Verdict.{verdict_of}
+use Rattle.survey.specs.Verdict.{number_of, verdict_of}
+use Rattle.survey.specs.declared.refusal.Refusal.{Refusal}
+use Rattle.survey.specs.declared.refusal.Refusal.TheVariants as D
 use Rattle.image.specs.RoundTrip.{write_image}
 use Rattle.rules.specs.Initial.{usual}
 use Rattle.rules.specs.Answers.{Answer, refused, answer}
@@ -23,27 +26,23 @@ use Rattle.rules.specs.Outcomes.{result, change, if_room}
 use Rattle.rules.specs.Room.{has_room}
 use Rattle.rules.specs.ReadCalls.{map_answer}
 use Rattle.rules.specs.ChangeCalls.{new_image, by_rules}
-use Rattle.rules.proofs.Asked.{over-fine, verdict-refused, number-refused}
+use Rattle.rules.proofs.Asked.{over-fine, verdict-refused}
 use Rattle.change.specs.Changed.{Changes, if_fits, lacks_room}
-use Rattle.change.specs.Sections.{Stands, Opens}
-use Rattle.change.specs.declared.answer.ChangeAnswer.{ChangeAnswer}
-use Rattle.change.specs.declared.answer.ChangeAnswer.TheVariants as A
+use Rattle.change.specs.Sections.{Stands}
 use Rattle.change.specs.declared.section.Sections.{Sections}
-use Rattle.change.specs.declared.section.Opened.{Opened}
 
 pub not-false : ◌≡◌ {A = Bool} true false → ⊥
 not-false e = let z : ◌≡◌ {A = ℕ} 0 1 = cc in omega arith
 
-refused-same : {def : Answer (List ℕ)} {old : List ℕ} {n : ℕ} → def ≡ refused n → Changes def old (A.Refused n) old
+refused-same : {def : Answer (List ℕ)} {old : List ℕ} {e : Refusal} → def ≡ refused (number_of e) → Changes def old (Err e) old
 refused-same e = record { answers = rw e; leaves = rw e }
 
 -- ---- 1 and 2
 
-pub changes-unopened : (c : Call) {img old : List ℕ} {r : Opened} → Opens img r → (r.refusal ≡ 0 → ⊥)
-    → Changes (by_rules usual c img (length old)) old (A.Refused r.refusal) old
+pub changes-unopened : (c : Call) {A : Type 0} (img : List ℕ) {old : List ℕ} {o : Result A Refusal} {e : Refusal} {r : Result ℕ Refusal}
+    → result_err o ≡ verdict_of img → o ≡ Err e → r ≡ Err e → Changes (by_rules usual c img (length old)) old r old
 unfolding new_image
-changes-unopened c {img} o h =
-    refused-same (verdict-refused _ img _ (number-refused (verdict_of img) o.number h))
+changes-unopened c img {e = e} v d z = rw z (refused-same (verdict-refused _ img e (sym v ∙ ap result_err d)))
 
 -- ---- room
 
@@ -74,11 +73,11 @@ module _ (n size room : ℕ) (e : size ≡ min (0 + n) edge) (h : lacks_room siz
 
 -- measured, and too long; or measured, and written
 module _ {bytes l m : List ℕ} {size : ℕ} (put : Put l 0 bytes size m) where
-  pub finish-roomless : {old : List ℕ} → lacks_room size (length old) ≡ true → Changes (if_fits bytes (length old)) old (A.Refused 5) old
+  pub finish-roomless : {old : List ℕ} → lacks_room size (length old) ≡ true → Changes (if_fits bytes (length old)) old (Err D.NoRoom) old
   finish-roomless {old} h = refused-same (rw (room-less (length bytes) size (length old) put.to h))
 
   pub finish-written : {q : ℕ} {old new : List ℕ} → lacks_room size (length old) ≡ false → Put old 0 bytes q new
-      → Changes (if_fits bytes (length old)) old (A.Length q) new
+      → Changes (if_fits bytes (length old)) old (Ok q) new
   finish-written {q} {old} {new} h k =
       let d = room-more (length bytes) size (length old) put.to h in
       let i = in-room (length bytes) size (length old) put.to h in
@@ -92,7 +91,7 @@ module _ (c : Call) {img : List ℕ} {p : Sections} {s : Store} (w : Stands img 
   unfolding new_image
   def_is room = over-fine _ img w.short w.is
 
-  pub changes-refused : {old : List ℕ} {n : ℕ} → refusal c s ≡ Some n → Changes (by_rules usual c img (length old)) old (A.Refused n) old
+  pub changes-refused : {old : List ℕ} {e : Refusal} → refusal c s ≡ Some (number_of e) → Changes (by_rules usual c img (length old)) old (Err e) old
   unfolding change
   changes-refused {old} e = refused-same (def_is (length old) ∙ rw e)
 
@@ -105,6 +104,6 @@ module _ (c : Call) {img : List ℕ} {p : Sections} {s : Store} (w : Stands img 
       go true = refl
       go false = refl
 
-  pub changes-made : {bytes old new : List ℕ} {r : ChangeAnswer} → refusal c s ≡ None → bytes ≡ write_image (result usual c s)
+  pub changes-made : {bytes old new : List ℕ} {r : Result ℕ Refusal} → refusal c s ≡ None → bytes ≡ write_image (result usual c s)
       → Changes (if_fits bytes (length old)) old r new → Changes (by_rules usual c img (length old)) old r new
   changes-made {old = old} e d h = rw (def-fits (length old) e, ← d) h

@@ -6,11 +6,12 @@ use Prim.Native.Nat.{ℕ, ◌+◌, ◌-◌, ◌≤◌}
 use native.Mathlib.Omega.{arith}
 use lib.ListN.{length, drop, length-append, length-drop, drop_of_length-le}
 use lib.Seq.{take_at, drop-drop, drop-append_seam}
-use Rattle.wire.specs.declared.cursor.Cursor.{Cursor}
-use Rattle.wire.specs.declared.cursor.Cursor.TheVariants.{At, Stop}
-use Rattle.wire.specs.Parse.{Parsed, got, never-got}
+use Rattle.std.specs.Prelude.{Result, Ok, Err}
+use Rattle.std.specs.Result.{result_unwrap_or}
+use Rattle.wire.specs.declared.fault.Fault.{Fault}
+use Rattle.wire.specs.Parse.{Parsed, fault, got, never-got}
 use Rattle.wire.specs.Codec.{Codec}
-use Rattle.wire.specs.Reading.{Reads, cursor_in, give, place_at}
+use Rattle.wire.specs.Reading.{Reads, said, next_in}
 use Rattle.image.specs.Meaning.{Store}
 use Rattle.image.specs.NodeLayout.{node, base}
 use Rattle.image.specs.RecordLayout.{layer_record, records}
@@ -21,15 +22,15 @@ use Rattle.survey.specs.Survey.{Surveys}
 use Rattle.image.specs.RoundTrip.{read_image, write_image}
 use Rattle.image.proofs.RoundTrip.{read-then-write, read_fits}
 use Rattle.survey.specs.declared.store.Survey.{Survey}
-use Rattle.survey.specs.declared.store.ImageRead.{ImageRead}
-use Rattle.survey.specs.declared.store.Verdict.TheVariants as D
-use Rattle.survey.specs.Verdict.{Judges, refusal_number}
-use Rattle.rules.proofs.Asked.{verdict-fine, number-fine}
+use Rattle.survey.specs.declared.batch.InodeLayerStack.{InodeLayerStack}
+use Rattle.survey.specs.declared.refusal.Refusal.{Refusal}
+use Rattle.survey.specs.Verdict.{Judges}
+use Rattle.wire.proofs.Readers.{handed}
+use Rattle.rules.proofs.Asked.{verdict-fine}
 use Rattle.writers.specs.Tails.{tail}
 use Rattle.change.specs.Sections.{between, Spans, tail_of, Stands, Opens, OpensInode}
 use Rattle.change.specs.declared.section.Sections.{Sections}
-use Rattle.change.specs.declared.section.OpenedInode.{OpenedInode}
-use Rattle.stack.proofs.Opening.{image-opened}
+use Rattle.stack.proofs.Opening.{opens-stack}
 
 -- ---- bytes that stand in an image
 
@@ -75,43 +76,52 @@ same_place : (img : List ℕ) {m q : ℕ} → m ≤ length img → q ≤ length 
 same_place img {m} {q} h k e = omega (arith, length-drop m img, length-drop q img, ap length e)
 
 -- what a reader finds where this was to be read
-pub reads-got : {A : Type 0} (img : List ℕ) {p : List ℕ → Parsed A} {n q : ℕ} {a x : A} → p (drop n img) ≡ got a (drop q img) → q ≤ length img
-    → (next : Cursor) → Reads img p (At n) x next → (x ≡ a) × (next ≡ At q)
-reads-got img {q = q} {a} {x} d h (At m) r =
-    let e : got x (drop m img) ≡ got a (drop q img) = sym r.same ∙ d in
-    let z : drop m img ≡ drop q img = cc in
-    (cc, ap At (same_place img r.within h z))
-reads-got img d h (Stop y) r = never-got (sym r.same ∙ d)
+pub reads-got : {A : Type 0} (img : List ℕ) {p : List ℕ → Parsed A} {n q : ℕ} {a : A} {o : Result (A × ℕ) Fault} → p (drop n img) ≡ got a (drop q img) → q ≤ length img
+    → Reads img p n o → o ≡ Ok (a, q)
+reads-got {A} img {q = q} {a} {o} d h r = go o (sym d ∙ r.same) r.within
+  where
+    go : (o : Result (A × ℕ) Fault) → got a (drop q img) ≡ said img o → next_in img o → o ≡ Ok (a, q)
+    go (Ok x) e w =
+        let z : drop q img ≡ drop x.1 img = cc in
+        let y : x.0 ≡ a = cc in
+        ap Ok (λ j. (y j, same_place img w h (sym z) j))
+    go (Err f) e w = never-got (sym e)
 
 -- or where a construct was written
-pub span-reads : {A : Type 0} {img : List ℕ} (c : Codec A) {n q : ℕ} {a x : A} → Spans img n (c.write a) q → c.Fits a
-    → (next : Cursor) → Reads img c.read (At n) x next → (x ≡ a) × (next ≡ At q)
-span-reads {img = img} c {q = q} {a} w f next r = reads-got img (ap c.read w.is ∙ c.back a (drop q img) f) w.within next r
+pub span-reads : {A : Type 0} {img : List ℕ} (c : Codec A) {n q : ℕ} {a : A} {o : Result (A × ℕ) Fault} → Spans img n (c.write a) q → c.Fits a
+    → Reads img c.read n o → o ≡ Ok (a, q)
+span-reads {img = img} c {q = q} {a} w f r = reads-got img (ap c.read w.is ∙ c.back a (drop q img) f) w.within r
+
+-- what was read is the answer, whatever would be answered if it weren't
+pub value-is : {A E : Type 0} {o : Result A E} {x y : A} (d : A) → o ≡ Ok y → x ≡ result_unwrap_or o d → x ≡ y
+value-is d e z = z ∙ ap (λ o. result_unwrap_or o d) e
 
 -- what is passed where a construct was written, with these bytes after it
-pub record Past (img : List ℕ) (n : ℕ) (bytes : List ℕ) (next : Cursor) (t : List ℕ) : Type 0 where
-  pub spans : Spans img n bytes (place_at next)
-  pub rest : drop (place_at next) img ≡ t
-  pub place : next ≡ At (place_at next)
+pub record Past (img : List ℕ) (n : ℕ) (bytes : List ℕ) (t : List ℕ) (place : ℕ) : Type 0 where
+  pub spans : Spans img n bytes place
+  pub rest : drop place img ≡ t
 
 module _ {A : Type 0} {img : List ℕ} (c : Codec A) {a : A} {t : List ℕ} where
-  pub ends-past : (n : ℕ) (next : Cursor) → n ≤ length img → c.Fits a → drop n img ≡ c.write a ++ t → Ends img c.read (At n) next
-      → Past img n (c.write a) next t
-  ends-past n next h f d e = go next (rw (d, c.back a t f) at e.same) e.within
+  pub past-at : (n : ℕ) {q : ℕ} → n ≤ length img → c.Fits a → drop n img ≡ c.write a ++ t → Ends img c.read n (Ok q) → Past img n (c.write a) t q
+  past-at n {q} h f d e =
+      let s : ◌≡◌ {A = Parsed (Unit {0})} (got tt t) (got tt (drop q img)) = rw (d, c.back a t f) at e.same in
+      let z : t ≡ drop q img = cc in
+      record {
+        spans = record {
+          is = d ∙ ap (λ (u : List ℕ). c.write a ++ u) z;
+          ends = omega (arith, ap length z, length-drop q img, length-drop n img, ap length d, length-append (c.write a) t);
+          within = e.within;
+        };
+        rest = sym z;
+      }
+
+  pub ends-past : (n : ℕ) {o : Result ℕ Fault} → n ≤ length img → c.Fits a → drop n img ≡ c.write a ++ t → Ends img c.read n o
+      → (q : ℕ) × (o ≡ Ok q) × Past img n (c.write a) t q
+  ends-past n {o} h f d e = go o e
     where
-      go : (next : Cursor) → ◌≡◌ {A = Parsed (Unit {0})} (got tt t) (give img tt next) → cursor_in img next → Past img n (c.write a) next t
-      go (At q) e w =
-          let z : t ≡ drop q img = cc in
-          record {
-            spans = record {
-              is = d ∙ ap (λ (u : List ℕ). c.write a ++ u) z;
-              ends = omega (arith, ap length z, length-drop q img, length-drop n img, ap length d, length-append (c.write a) t);
-              within = w;
-            };
-            rest = sym z;
-            place = refl;
-          }
-      go (Stop y) e w = never-got (sym e)
+      go : (o : Result ℕ Fault) → Ends img c.read n o → (q : ℕ) × (o ≡ Ok q) × Past img n (c.write a) t q
+      go (Ok q) e = (q, refl, past-at n h f d e)
+      go (Err y) e = let s : ◌≡◌ {A = Parsed (Unit {0})} (got tt t) (fault y) = rw (d, c.back a t f) at e.same in never-got (sym s)
 
 -- ---- the sections
 
@@ -124,29 +134,35 @@ module _ {img : List ℕ} {i : ℕ} {r : Survey} {s : Store} (w : Surveys img i 
   fits : FitsStore s
   fits = read_fits img s e
 
-  pub survey-stands : Stands img (record { batches = place_at r.batches; live = place_at r.live; tail = place_at r.tail }) s
+  pub survey-stands : Stands img (record { batches = r.batches; live = r.live; tail = r.tail }) s
   unfolding node layer_record batches
   survey-stands =
-      let b = ends-past base {a = s.base} 0 r.batches (omega arith) fits.base (sym (read-then-write img s e) ∙ store_bytes s) w.base in
-      let q = ends-past batches {a = s.batches} (place_at r.batches) r.live b.spans.within fits.batches b.rest (rw b.place at w.batches) in
-      let l = ends-past records {a = s.live} (place_at r.live) r.tail q.spans.within fits.live q.rest (rw q.place at w.live) in
-      record { short = short; is = e; base = b.spans; batches = q.spans; live = l.spans; tail = span_last img (place_at r.tail) l.spans.within l.rest }
+      let b = past-at base {a = s.base} 0 (omega arith) fits.base (sym (read-then-write img s e) ∙ store_bytes s) w.base in
+      let q = past-at batches {a = s.batches} r.batches b.spans.within fits.batches b.rest w.batches in
+      let l = past-at records {a = s.live} r.live q.spans.within fits.live q.rest w.live in
+      record { short = short; is = e; base = b.spans; batches = q.spans; live = l.spans; tail = span_last img r.tail l.spans.within l.rest }
 
 pub stands-fits : {img : List ℕ} {p : Sections} {s : Store} → Stands img p s → FitsStore s
 stands-fits {img} {s = s} w = read_fits img s w.is
 
 -- ---- the one pass
 
-pub inode-opened : {img : List ℕ} {i : ℕ} {read : ImageRead} {b l t n : ℕ} → Judges img i read → b ≡ place_at read.survey.batches → l ≡ place_at read.survey.live
-    → t ≡ place_at read.survey.tail → n ≡ refusal_number read.verdict
-    → OpensInode img i (record { sections = record { batches = b; live = l; tail = t }; stack = read.survey.stack; refusal = n })
-inode-opened {img} {i} {read} {b} {l} {t} j eb el et e =
-    record { number = e ∙ ap refusal_number j.verdict; sections = λ z. go (number-fine read.verdict e z); stack = (image-opened j e).stack }
-  where
-    go : read.verdict ≡ D.Fine → (s : Store) × Stands img (record { batches = b; live = l; tail = t }) s
-    go v =
-        let s = verdict-fine img (sym j.verdict ∙ v) in
-        (s.0, rw (eb, el, et) (survey-stands (j.survey v).surveys s.2 s.1))
+module _ {img : List ℕ} {i : ℕ} {o : Result Survey Refusal} (j : Judges img i o) where
+  pub inode-opened : {r : Survey} → o ≡ Ok r
+      → OpensInode img i (Ok (record { batches = r.batches; live = r.live; tail = r.tail }, r.stack))
+  inode-opened d =
+      let k = rw d at j in
+      let s = verdict-fine img (sym k.verdict) in
+      record { verdict = k.verdict; sections = (s.0, survey-stands k.survey.surveys s.2 s.1); stack = (opens-stack j d).stack }
 
-pub sections-opened : {img : List ℕ} {i : ℕ} {r : OpenedInode} → OpensInode img i r → Opens img (record { sections = r.sections; refusal = r.refusal })
-sections-opened o = record { number = o.number; sections = o.sections }
+  pub inode-unopened : {e : Refusal} {r : Result (Sections × InodeLayerStack) Refusal} → o ≡ Err e → r ≡ Err e → OpensInode img i r
+  inode-unopened d z = let k = rw d at j in rw z (record { verdict = k.verdict; sections = tt; stack = tt })
+
+module _ {img : List ℕ} {i : ℕ} {o : Result (Sections × InodeLayerStack) Refusal} (j : OpensInode img i o) where
+  pub sections-opened : {p : Sections} {k : InodeLayerStack} → o ≡ Ok (p, k) → Opens img (Ok p)
+  sections-opened d = let k = rw d at j in record { verdict = k.verdict; sections = k.sections }
+
+  pub sections-unopened : {e : Refusal} {r : Result Sections Refusal} → o ≡ Err e → r ≡ Err e → Opens img r
+  sections-unopened d z = let k = rw d at j in rw z (record { verdict = k.verdict; sections = tt })
+
+pub ruleset opens = (inode-opened, inode-unopened, sections-opened, sections-unopened, handed)

@@ -1,18 +1,18 @@
 -- What a change answers, and what it leaves in the target.
-use Rattle.std.specs.Prelude.{◌≡◌, Bool, ◌||◌, ◌&&◌, cond, List, ℕ, leb, ltb, length}
+use Rattle.std.specs.Prelude.{◌≡◌, Bool, ◌||◌, ◌&&◌, cond, List, ℕ, leb, ltb, length, Result, Ok, Err}
+use Rattle.survey.specs.Verdict.{numbered}
+use Rattle.survey.specs.declared.refusal.Refusal.{Refusal}
 use Rattle.rules.specs.Answers.{Answer, refused, answer}
 use Rattle.rules.specs.ChangeCalls.{written}
-use Rattle.change.specs.declared.answer.ChangeAnswer.{ChangeAnswer}
-use Rattle.change.specs.declared.answer.ChangeAnswer.TheVariants as A
 
 -- "A refusal gives its number"; success, the length of the new image
-abbrev pub answered : Answer (List ℕ) → ChangeAnswer
-answered (refused n) = A.Refused n
-answered (answer new) = A.Length (length new)
+abbrev pub answered : Answer (List ℕ) → Result ℕ ℕ
+answered (refused n) = Err n
+answered (answer new) = Ok (length new)
 
 -- Answer and target are those of the call's definition.
-pub record Changes (def : Answer (List ℕ)) (old : List ℕ) (r : ChangeAnswer) (new : List ℕ) : Type 0 where
-  pub answers : r ≡ answered def
+pub record Changes (def : Answer (List ℕ)) (old : List ℕ) (r : Result ℕ Refusal) (new : List ℕ) : Type 0 where
+  pub answers : numbered r ≡ answered def
   pub leaves : new ≡ written def old
 
 -- the new image, if there is room for it: "5 stands for: the new image is over 65,536 bytes or over the lent target."

@@ -1,5 +1,6 @@
 -- Where the sections of an image stand. Document 01: "Order: base, batches, live, next id, staged bytes, staged operations, request."
-use Rattle.std.specs.Prelude.{◌≡◌, List, [], ◌++◌, ℕ, ◌+◌, ◌-◌, ◌≤◌, length, drop}
+use Rattle.std.specs.Prelude.{◌≡◌, List, [], ◌++◌, ℕ, ◌+◌, ◌-◌, ◌≤◌, length, drop, Result, IfOk}
+use Rattle.std.specs.Result.{result_err}
 use Rattle.wire.specs.Parse.{got}
 use Rattle.wire.specs.Reading.{part}
 use Rattle.image.specs.Meaning.{Store}
@@ -7,12 +8,12 @@ use Rattle.image.specs.NodeLayout.{base}
 use Rattle.image.specs.RecordLayout.{records}
 use Rattle.image.specs.StoreLayout.{batches}
 use Rattle.image.specs.RoundTrip.{read_image}
-use Rattle.survey.specs.Verdict.{refusal_number, verdict_of}
+use Rattle.survey.specs.Verdict.{verdict_of}
+use Rattle.survey.specs.declared.batch.InodeLayerStack.{InodeLayerStack}
+use Rattle.survey.specs.declared.refusal.Refusal.{Refusal}
 use Rattle.writers.specs.Tails.{TailParts, tail}
 use Rattle.change.specs.declared.section.Sections.{Sections}
 use Rattle.stack.specs.Stacks.{StackOf}
-use Rattle.change.specs.declared.section.Opened.{Opened}
-use Rattle.change.specs.declared.section.OpenedInode.{OpenedInode}
 
 -- the bytes from one place to another
 abbrev pub between : List ℕ → ℕ → ℕ → List ℕ
@@ -37,13 +38,13 @@ pub record Stands (img : List ℕ) (p : Sections) (s : Store) : Type 0 where
   pub live : Spans img p.live (records.write s.live) p.tail
   pub tail : Spans img p.tail (tail.write (tail_of s)) (length img)
 
--- "Always first: 1, image over 65,536 bytes; 2, image not by the layout": the number, and the sections where there is none
-pub record Opens (img : List ℕ) (r : Opened) : Type 0 where
-  pub number : r.refusal ≡ refusal_number (verdict_of img)
-  pub sections : r.refusal ≡ 0 → (s : Store) × Stands img r.sections s
+-- "Always first: 1, image over 65,536 bytes; 2, image not by the layout": the refusal, or the sections
+pub record Opens (img : List ℕ) (r : Result Sections Refusal) : Type 0 where
+  pub verdict : result_err r ≡ verdict_of img
+  pub sections : IfOk r (λ p. (s : Store) × Stands img p s)
 
 -- the same, and the stack of one inode
-pub record OpensInode (img : List ℕ) (i : ℕ) (r : OpenedInode) : Type 0 where
-  pub number : r.refusal ≡ refusal_number (verdict_of img)
-  pub sections : r.refusal ≡ 0 → (s : Store) × Stands img r.sections s
-  pub stack : r.refusal ≡ 0 → StackOf img i r.stack
+pub record OpensInode (img : List ℕ) (i : ℕ) (r : Result (Sections × InodeLayerStack) Refusal) : Type 0 where
+  pub verdict : result_err r ≡ verdict_of img
+  pub sections : IfOk r (λ x. (s : Store) × Stands img x.0 s)
+  pub stack : IfOk r (λ x. StackOf img i x.1)

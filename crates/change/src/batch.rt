@@ -1,20 +1,18 @@
 // Batches, one after the other.
-ghost use Rattle.wire.specs.Reading.{Reads};
+ghost use Rattle.wire.specs.Reading.{Reads, meant};
 ghost use Rattle.writers.specs.Batches.{head_meant};
 ghost use Rattle.change.specs.Batches.{pass_batch};
 
 use passes::inode::{Held, find_inode};
-use wire::cursor::Cursor;
-use writers::batch::{BatchHeadRead, read_batch_head};
+use wire::fault::Fault;
+use writers::batch::{BatchHead, read_batch_head};
 
-// The head of the batch at `at`; the cursor is that after its records.
-pub fn pass_batch(img: &[u8], at: Cursor) -> BatchHeadRead
-    ensures { Reads img.now pass_batch at (head_meant result.head) result.next }
+// The head of the batch at `at`, and the place after its records.
+#[tactic(auto, using(crate::proofs::Batches::passes_batch))]
+pub fn pass_batch(img: &[u8], at: usize) -> Result<(BatchHead, usize), Fault>
+    ensures { Reads img.now pass_batch at (meant head_meant result) }
 {
-    let read = read_batch_head(img, at);
-    let head = read.head;
-    let records = read.next;
-    let found = find_inode(img, records, Held::Record, 0);
-    let next = found.next;
-    BatchHeadRead { head, next }
+    let (head, records) = read_batch_head(img, at)?;
+    let (_, next) = find_inode(img, records, Held::Record, 0)?;
+    Ok((head, next))
 }

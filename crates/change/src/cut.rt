@@ -6,8 +6,8 @@ ghost use Rattle.image.specs.FieldLayout.{inode};
 ghost use Rattle.image.specs.RecordLayout.{layer_record};
 ghost use Rattle.change.specs.Cuts.{Cuts, CutsRecords, count_after};
 
+use image::field::LAST_WORD;
 use passes::record::pass_record;
-use wire::cursor::{Cursor, place_at};
 use wire::number::read_number;
 
 // `count` records from `first` on. That of the inode is from `row` to `after`, its code at `place`; if it has none, there is nothing between.
@@ -24,9 +24,8 @@ pub struct Cut {
 pub fn cut_records(img: &[u8], at: usize, ino: u64) -> Cut
     ensures { CutsRecords img.now at ino result }
 {
-    let count = read_number(img, Cursor::At(at), 0xFFFF_FFFF);
-    let next = count.next;
-    cut_rows(img, place_at(next), count.value, ino)
+    let (count, first) = read_number(img, at, LAST_WORD).unwrap_or((0, 0));
+    cut_rows(img, first, count, ino)
 }
 
 // `count` records from `first` on.
@@ -35,20 +34,18 @@ fn cut_rows(img: &[u8], first: usize, count: u64, ino: u64) -> Cut
 {
     let mut row = first;
     for _ in 0..count {
-        let inode = read_number(img, Cursor::At(row), 0xFFFF_FFFF_FFFF_FFFF);
-        if ino < inode.value {
+        let (inode, start) = read_number(img, row, u64::MAX).unwrap_or((0, 0));
+        if ino < inode {
             break;
         }
-        let start = inode.next;
-        let next = pass_record(img, start);
-        let after = place_at(next);
-        if inode.value == ino {
+        let after = pass_record(img, start).unwrap_or(0);
+        if inode == ino {
             return Cut {
                 count,
                 first,
                 row,
                 after,
-                place: Some(place_at(start)),
+                place: Some(start),
             };
         }
         row = after;

@@ -2,8 +2,8 @@
 ghost use Rattle.change.specs.Sections.{Opens, OpensInode};
 
 use survey::batch::InodeLayerStack;
-use survey::store::{read_image, refusal_number};
-use wire::cursor::place_at;
+use survey::refusal::Refusal;
+use survey::store::read_image;
 
 // The base is from 0 to `batches`, and what follows live is from `tail` to the end.
 #[derive(Clone, Copy)]
@@ -13,52 +13,26 @@ pub struct Sections {
     pub tail: usize,
 }
 
-// The refusal is 0 if there is none; with one, the sections say nothing.
-#[derive(Clone, Copy)]
-pub struct Opened {
-    pub sections: Sections,
-    pub refusal: u32,
-}
-
-// The same, and the stack of one inode.
-#[derive(Clone, Copy)]
-pub struct OpenedInode {
-    pub sections: Sections,
-    pub stack: InodeLayerStack,
-    pub refusal: u32,
-}
-
-// The one pass over the image that every call starts with.
-pub fn open_inode(img: &[u8], ino: u64) -> OpenedInode
+// The one pass over the image that every call starts with: the sections, and the stack of one inode.
+#[tactic(auto, using(crate::proofs::Sections::opens))]
+pub fn open_inode(img: &[u8], ino: u64) -> Result<(Sections, InodeLayerStack), Refusal>
     ensures { OpensInode img.now ino result }
 {
-    let read = read_image(img, ino);
-    let verdict = read.verdict;
-    let survey = read.survey;
+    let survey = read_image(img, ino)?;
     let stack = survey.stack;
-    let batches = survey.batches;
-    let live = survey.live;
-    let tail = survey.tail;
     let sections = Sections {
-        batches: place_at(batches),
-        live: place_at(live),
-        tail: place_at(tail),
+        batches: survey.batches,
+        live: survey.live,
+        tail: survey.tail,
     };
-    OpenedInode {
-        sections,
-        stack,
-        refusal: refusal_number(verdict),
-    }
+    Ok((sections, stack))
 }
 
 // For a call that needs no stack.
-pub fn open_sections(img: &[u8]) -> Opened
+#[tactic(auto, using(crate::proofs::Sections::opens))]
+pub fn open_sections(img: &[u8]) -> Result<Sections, Refusal>
     ensures { Opens img.now result }
 {
-    let opened = open_inode(img, 0);
-    let sections = opened.sections;
-    Opened {
-        sections,
-        refusal: opened.refusal,
-    }
+    let (sections, _) = open_inode(img, 0)?;
+    Ok(sections)
 }

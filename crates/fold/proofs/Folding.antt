@@ -170,7 +170,7 @@ base-shows n {o} e = record { makes = go }
       attributes = list_at img U.Value n.meta.xattrs;
       entries = entries_in (body_meant img n.kind);
       is = rw (body-shows img n.kind);
-      attributes_come = whole (b.reads.attributes p refl);
+      attributes_come = whole b.reads.attributes;
       entries_come = rw e (base-entries img n.kind b.end b.reads.entries);
     })
 

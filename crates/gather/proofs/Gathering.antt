@@ -102,11 +102,11 @@ module _ (img : List ℕ) (p : ℕ) where
   delta-lists : (l : Lists) (n : NodeDelta) → RecordIs img p (E.Node n) → delta_lists img l n ≡ pile_rows (delta_pile l p (delta_meant img n))
   unfolding rows_of
   delta-lists L.Entries n g = change-lists n g.end g.reads.reads.same g.reads.lists
-  delta-lists L.Attributes n g = alter-lists (attr_of n).xattrs (fields_meant img (attr_of n)) (g.reads.attributes p refl)
+  delta-lists L.Attributes n g = alter-lists (attr_of n).xattrs (fields_meant img (attr_of n)) (g.reads.attributes)
   delta-lists (L.AttributesOf t) n g = go (same_kind (changed_kind (change_meant img n)) (kind_meant t))
     where
       go : (b : Bool) → cond b (alter_lists img (attr_of n).xattrs) [] ≡ pile_rows (cond b (alter_pile p (fields_meant img (attr_of n)) (list_of img U.Change (attr_of n).xattrs)) [])
-      go true = alter-lists (attr_of n).xattrs (fields_meant img (attr_of n)) (g.reads.attributes p refl)
+      go true = alter-lists (attr_of n).xattrs (fields_meant img (attr_of n)) (g.reads.attributes)
       go false = refl
 
   entry-lists : (k : NodeKind) (m : M.Meta) (end : ℕ) → node.read (drop p img) ≡ got (record { meta = m; body = body_meant img k }) (drop end img) → EntriesListed img k end
@@ -125,8 +125,8 @@ module _ (img : List ℕ) (p : ℕ) where
   node_lists_lem : (l : Lists) (n : Node) → NodeIs img p n → node_lists img l n ≡ pile_rows (node_pile l (Some (record { place = p; held = node_meant img n })))
   unfolding rows_of
   node_lists_lem L.Entries n g = entry-lists n.kind (meta_meant img n.meta) g.end g.reads.reads.same g.reads.entries
-  node_lists_lem L.Attributes n g = let a = g.reads.attributes p refl in rw (list-source img U.Value a (list-start img U.Value a))
-  node_lists_lem (L.AttributesOf t) n g = let a = g.reads.attributes p refl in rw (list-source img U.Value a (list-start img U.Value a))
+  node_lists_lem L.Attributes n g = let a = g.reads.attributes in rw (list-source img U.Value a (list-start img U.Value a))
+  node_lists_lem (L.AttributesOf t) n g = let a = g.reads.attributes in rw (list-source img U.Value a (list-start img U.Value a))
 
 base-lists : (img : List ℕ) (l : Lists) (o : Option ℕ) (b : Option Node) → BaseIs img o b → base_lists img l b ≡ pile_rows (node_pile l (node_at img o))
 unfolding rows_of

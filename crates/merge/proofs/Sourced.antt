@@ -1,6 +1,7 @@
 -- How a source is read in the image, row by row.
 -- Assumes nothing.
-use Rattle.std.specs.Prelude.{None, Option, Some}
+use Rattle.std.specs.Prelude.{Result, Ok, Err, None, Option, Some, is_some, unwrap_or}
+use Rattle.std.specs.Result.{result_unwrap_or}
 use mathlib.Core.Path.{◌≡◌, refl, sym, ap}
 use mathlib.Core.Bool.{Bool, true, false}
 use mathlib.Core.List.{List, [], ◌∷◌, ◌++◌}
@@ -8,53 +9,69 @@ use Prim.Native.Nat.{ℕ, zero, suc, ◌+◌, ◌-◌, ◌≤◌}
 use native.Mathlib.Omega.{arith}
 use lib.ListN.{length, drop, length-append, length-drop}
 use lib.Seq.{length-take-le}
-use Rattle.wire.specs.declared.cursor.Fault.{Fault}
-use Rattle.wire.specs.declared.cursor.Cursor.{Cursor}
-use Rattle.wire.specs.declared.cursor.Cursor.TheVariants.{At, Stop}
+use Rattle.wire.specs.declared.fault.Fault.{Fault}
 use Rattle.wire.specs.Parse.{Parsed, fault, got, bind, never-got}
 use Rattle.wire.specs.Codec.{Codec, OneForm}
 use Rattle.wire.specs.Combinators.{◌then◌}
 use Rattle.wire.specs.Number.{edge, number_bytes, number_read, number-one, number_to}
 use Rattle.wire.specs.Text.{text-read}
 use Rattle.wire.specs.Lists.{last_count}
-use Rattle.wire.specs.Reading.{Reads, Answers, AnswersPart, cursor_in, part}
-use Rattle.wire.proofs.Readers.{read-end}
+use Rattle.wire.specs.Reading.{Reads, ReadsPart, part}
+use Rattle.wire.proofs.Readers.{read-end, read-stop, handed}
 use Rattle.image.specs.Places.{maybe_read}
 use Rattle.image.specs.FieldLayout.{name}
 use Rattle.image.specs.Under.{UnderName, under}
 use Rattle.image.specs.declared.name.Under.{Under}
 use Rattle.image.specs.declared.name.Under.TheVariants as U
-use Rattle.nodes.specs.Options.{text_at, text_of}
+use Rattle.nodes.specs.Options.{text_at, text_of, ReadsText}
 use Rattle.wire.specs.declared.text.Part.{Part}
 use Rattle.nodes.proofs.Values.{reads_made}
 use Rattle.rules.specs.Changes.{map_if}
 use Rattle.merge.specs.declared.source.Source.{Source}
 use Rattle.merge.specs.declared.source.Head.{Head}
-use Rattle.merge.specs.Sources.{Given, Decided, choice, decided, chosen, chosen_read, is_set, value_of, rows_if, rows_from, row_at, Chooses, Ended, NoRow, Inside, HeadOf, ListOf}
+use Rattle.merge.specs.declared.source.Choice.{Choice}
+use Rattle.merge.specs.Sources.{Given, Decided, choice, decided, chosen, chosen_read, choice_meant, rows_if, rows_from, row_at, Chooses, Ended, NoRow, Inside, FirstRow, HeadOf, ListOf}
 use Rattle.wire.proofs.OneForm.{then-one}
 use Rattle.wire.proofs.NumberForms.{number_to-one}
 use Rattle.image.proofs.OneForm.{name-one, under-one}
 
 -- ---- what stands under a name
 
-module _ {img : List ℕ} {u : Under} {at : Cursor} where
-  pub choice-nothing : {v : Part} → u ≡ U.Nothing → cursor_in img at → Chooses img u at false 0 v at
-  choice-nothing e w = record { reads = rw e (read-end img w) }
+module _ {img : List ℕ} {at : ℕ} where
+  pub choice-nothing : {u : Under} {c : Choice} → u ≡ U.Nothing → at ≤ length img → c.given ≡ false → Chooses img u at (Ok (c, at))
+  choice-nothing e w g = rw e (record { reads = rw g (read-end w) })
 
-  pub choice-inode : {n : ℕ} {v : Part} {next : Cursor} → u ≡ U.Inode → Answers img (number_read edge) at 0 n next → (v.start ≡ 0) × (v.length ≡ 0) → Chooses img u at true n v next
-  choice-inode e h z = record { reads = rw (e, z.1) (reads_made (number_read edge) (λ n. Some (n, [])) h.reads) }
+  module _ {o : Result (ℕ × ℕ) Fault} (h : Reads img (number_read edge) at o) where
+    pub inode-stop : {f : Fault} {r : Result (Choice × ℕ) Fault} → o ≡ Err f → r ≡ Err f → Chooses img U.Inode at r
+    inode-stop d e = rw e (record { reads = read-stop _ (rw d at h) })
 
-  pub choice-value : {start size : ℕ} {next : Cursor} → u ≡ U.Value → AnswersPart img (text-read 0 4096) at start size next
-      → Chooses img u at true 0 (record { start = start; «length» = size }) next
-  choice-value e h = record { reads = rw e (reads_made (text-read 0 4096) (λ t. Some (0, t)) h.reads) }
+    pub choice-inode : {n m : ℕ} {v : Part} → o ≡ Ok (n, m) → (v.start ≡ 0) × (v.length ≡ 0) → Chooses img U.Inode at (Ok (record { given = true; inode = n; value = v }, m))
+    choice-inode d z = let g = rw d at h in record { reads = rw z.1 (reads_made (number_read edge) (λ n. Some (n, [])) g) }
 
-set-chosen : (img : List ℕ) (o : Option Part) → map_if (λ t. (0, t)) (text_of img o) ≡ chosen (is_set o) (0, text_at img (value_of o))
-set-chosen img (Some p) = refl
-set-chosen img None = refl
+  module _ {o : Result (Part × ℕ) Fault} (h : ReadsPart img (text-read 0 4096) at o) where
+    pub value-stop : {f : Fault} {r : Result (Choice × ℕ) Fault} → o ≡ Err f → r ≡ Err f → Chooses img U.Value at r
+    value-stop d e = let g = rw d at h in rw e (record { reads = read-stop {p = text-read 0 4096} _ (record { same = g.same; within = tt }) })
 
-pub choice-change : {img : List ℕ} {u : Under} {at : Cursor} (o : Option Part) {b : Bool} {v : Part} {next : Cursor} → u ≡ U.Change
-    → Reads img (maybe_read (text-read 0 4096)) at (text_of img o) next → b ≡ is_set o → v ≡ value_of o → Chooses img u at b 0 v next
-choice-change {img} o e h d f = record { reads = rw (e, d, f, ← (set-chosen img o)) (reads_made (maybe_read (text-read 0 4096)) (map_if (λ t. (0, t))) h) }
+    pub choice-value : {v : Part} {m : ℕ} → o ≡ Ok (v, m) → Chooses img U.Value at (Ok (record { given = true; inode = 0; value = v }, m))
+    choice-value d =
+        let g = rw d at h in
+        record { reads = reads_made (text-read 0 4096) (λ t. Some (0, t)) (record { same = g.same; within = omega (arith, g.within.0, g.within.1) }) }
+
+set-chosen : (img : List ℕ) (o : Option Part) (v : Part) → map_if (λ t. (0, t)) (text_of img o) ≡ chosen (is_some o) (0, text_at img (unwrap_or o v))
+set-chosen img (Some p) v = refl
+set-chosen img None v = refl
+
+module _ {img : List ℕ} {at : ℕ} {o : Result (Option Part × ℕ) Fault} (h : ReadsText img 4096 at o) where
+  pub change-stop : {f : Fault} {r : Result (Choice × ℕ) Fault} → o ≡ Err f → r ≡ Err f → Chooses img U.Change at r
+  change-stop d e = let g = rw d at h in rw e (record { reads = read-stop _ g.reads })
+
+  pub choice-change : {x : Option Part} {m : ℕ} {b : Bool} {v : Part} (w : Part) → o ≡ Ok (x, m) → b ≡ is_some x → v ≡ unwrap_or x w
+      → Chooses img U.Change at (Ok (record { given = b; inode = 0; value = v }, m))
+  choice-change {x} w d i f =
+      let g = rw d at h in
+      record { reads = rw (i, f, ← (set-chosen img x w)) (reads_made (maybe_read (text-read 0 4096)) (map_if (λ t. (0, t))) g.reads) }
+
+pub ruleset choices = (choice-nothing, inode-stop, choice-inode, value-stop, choice-value, change-stop, choice-change, handed)
 
 -- ---- a row
 
@@ -91,19 +108,16 @@ module _ {img : List ℕ} {u : Under} {n p : ℕ} {h : Head} where
 
 module _ (img : List ℕ) (u : Under) (p start size : ℕ) where
   -- a row is the name and what stands under it
-  row-stop : (named : Cursor) (x : Option Given) (f : Fault) → Reads img name.read (At p) (part img start size) named → Reads img (chosen_read u) named x (Stop f)
-      → (name then under u).read (drop p img) ≡ fault f
-  row-stop (Stop g) x f t v = let e = v.same in rw t.same cc
-  row-stop (At m) x f t v = rw t.same (go ((under u).read (drop m img)) v.same)
+  row-stop : {m : ℕ} {f : Fault} → Reads img name.read p (Ok (part img start size, m)) → Reads img (chosen_read u) m (Err f) → (name then under u).read (drop p img) ≡ fault f
+  row-stop {m} {f} t v = rw t.same (go ((under u).read (drop m img)) v.same)
     where
       go : (o : Parsed (UnderName u)) → bind o (λ a r. got (choice u a) r) ≡ fault f → bind {B = List ℕ × UnderName u} o (λ b q. got (part img start size, b) q) ≡ fault f
       go (fault g) e = cc
       go (got a r) e = never-got (sym e)
 
-  row_read : (named : Cursor) (x : Option Given) (q : ℕ) → Reads img name.read (At p) (part img start size) named → Reads img (chosen_read u) named x (At q)
+  row_read : {m : ℕ} (x : Option Given) (q : ℕ) → Reads img name.read p (Ok (part img start size, m)) → Reads img (chosen_read u) m (Ok (x, q))
       → (v : UnderName u) × (choice u v ≡ x) × ((name then under u).read (drop p img) ≡ got (part img start size, v) (drop q img))
-  row_read (Stop g) x q t v = never-got v.same
-  row_read (At m) x q t v = go ((under u).read (drop m img)) refl v.same
+  row_read {m} x q t v = go ((under u).read (drop m img)) refl v.same
     where
       go : (o : Parsed (UnderName u)) → (under u).read (drop m img) ≡ o → bind o (λ a r. got (choice u a) r) ≡ got x (drop q img)
           → (v : UnderName u) × (choice u v ≡ x) × ((name then under u).read (drop p img) ≡ got (part img start size, v) (drop q img))
@@ -111,39 +125,55 @@ module _ (img : List ℕ) (u : Under) (p start size : ℕ) where
       go (got a r) d e = let z : r ≡ drop q img = cc in (a, cc, rw (t.same, d, z))
 
   -- the name stands after its length
-  name-start : (named : Cursor) (x : Option Given) (q : ℕ) → AnswersPart img (text-read 1 255) (At p) start size named → Reads img (chosen_read u) named x (At q)
-      → start ≡ p + length (number_bytes (length (part img start size)))
-  name-start (Stop g) x q t v = never-got v.same
-  name-start (At m) x q t v =
+  name-start : {m : ℕ} → start + size ≤ length img → m ≡ start + size → Reads img name.read p (Ok (part img start size, m)) → start ≡ p + length (number_bytes (length (part img start size)))
+  name-start {m} i e t =
       let k = part img start size in
-      let z : m ≡ p + length (name.write k) = read-on img name name-one k p m (simp length-append (omega (arith, number-one (length k)))) t.reads.within t.reads.same in
-      omega (arith, z, length-append (number_bytes (length k)) k, length-take-le size (drop start img) (omega (arith, length-drop start img, t.inside)), t.ends)
+      let z : m ≡ p + length (name.write k) = read-on img name name-one k p m (simp length-append (omega (arith, number-one (length k)))) t.within t.same in
+      omega (arith, z, length-append (number_bytes (length k)) k, length-take-le size (drop start img) (omega (arith, length-drop start img, i)), e)
 
-module _ {img : List ℕ} {u : Under} {n p start size : ℕ} {named : Cursor} (h : n ≡ 0 → ⊥) (t : AnswersPart img (text-read 1 255) (At p) start size named)
-    {b : Bool} {i : ℕ} {value : Part} {next : Cursor} (v : Chooses img u named b i value next) where
-  pub head-stop : {f : Fault} {s : Head} → next ≡ Stop f → NoRow s → HeadOf img u n p s
-  head-stop {f} e d = record { are = rw (d.none_there, rows-first img u n p h, row-stop img u p start size named (chosen b (i, text_at img value)) f t.reads (rw e at v.reads)); inside = no-row-inside d }
+module _ {img : List ℕ} {u : Under} {n p : ℕ} {o : Result (Part × ℕ) Fault} (h : n ≡ 0 → ⊥) (t : ReadsPart img (text-read 1 255) p o) where
+  pub row-unnamed : {f : Fault} {r : Result Head Fault} → o ≡ Err f → r ≡ Err f → FirstRow img u n p r
+  row-unnamed d e = let g = rw d at t in rw e (record { row = tt; none = rw (rows-first img u n p h, g.same) })
 
-  pub head-row : {q : ℕ} → next ≡ At q → HeadOf img u n p (record { more = true; start = start; «length» = size; given = b; inode = i; value = value; next = q })
-  head-row {q} e =
-      let d : Reads img (chosen_read u) named (chosen b (i, text_at img value)) (At q) = rw e at v.reads in
-      let k = part img start size in
-      let r = row_read img u p start size named (chosen b (i, text_at img value)) q t.reads d in
-      let w = name.write k ++ (under u).write r.0 in
-      let long : 1 ≤ length w = simp length-append (omega (arith, number-one (length k))) in
-      let z : q ≡ p + length w = read-on img (name then under u) (then-one name (under u) name-one (under-one u)) (k, r.0) p q long d.within r.2 in
-      let y = name-start img u p start size named (chosen b (i, text_at img value)) q t d in
-      record { are = rw (rows-first img u n p h, r.2, r.1, ← y, ← z); inside = record { ends = t.inside } }
+  module _ {k : Part} {m : ℕ} (d : o ≡ Ok (k, m)) {w : Result (Choice × ℕ) Fault} (v : Chooses img u m w) where
+    named : Reads img name.read p (Ok (part img k.start k.length, m))
+    named = let g = rw d at t in record { same = g.same; within = omega (arith, g.within.0, g.within.1) }
+
+    pub row-unread : {f : Fault} {r : Result Head Fault} → w ≡ Err f → r ≡ Err f → FirstRow img u n p r
+    row-unread {f} x e = let y = rw x at v in rw e (record { row = tt; none = rw (rows-first img u n p h, row-stop img u p k.start k.length named y.reads) })
+
+    pub row-there : {c : Choice} {q : ℕ} → w ≡ Ok (c, q)
+        → FirstRow img u n p (Ok (record { more = true; start = k.start; «length» = k.length; given = c.given; inode = c.inode; value = c.value; next = q }))
+    row-there {c} {q} x =
+        let g = rw d at t in
+        let d = (rw x at v).reads in
+        let b = part img k.start k.length in
+        let r = row_read img u p k.start k.length (choice_meant img c) q named d in
+        let w = name.write b ++ (under u).write r.0 in
+        let long : 1 ≤ length w = simp length-append (omega (arith, number-one (length b))) in
+        let z : q ≡ p + length w = read-on img (name then under u) (then-one name (under u) name-one (under-one u)) (b, r.0) p q long d.within r.2 in
+        let y = name-start img u p k.start k.length g.within.0 g.within.1 named in
+        record { row = record { are = rw (rows-first img u n p h, r.2, r.1, ← y, ← z); inside = record { ends = g.within.0 } }; none = tt }
+
+-- no row, if none is read
+pub head-first : {img : List ℕ} {u : Under} {n p : ℕ} {o : Result Head Fault} {d r : Head} → FirstRow img u n p o → r ≡ result_unwrap_or o d → NoRow d → HeadOf img u n p r
+head-first {img} {u} {n} {p} {o} {d} t e z = rw e (go o t)
+  where
+    go : (o : Result Head Fault) → FirstRow img u n p o → HeadOf img u n p (result_unwrap_or o d)
+    go (Ok h) t = t.row
+    go (Err f) t = record { are = rw (t.none, z.none_there); inside = no-row-inside z }
 
 -- ---- a list, its count first
 
-module _ {img : List ℕ} {u : Under} {n p : ℕ} {next : Cursor} (h : Answers img (number_read last_count) (At p) 0 n next) where
-  pub list-stop : {s : Source} {f : Fault} → next ≡ Stop f → Ended s → ListOf img u p s
+module _ {img : List ℕ} {u : Under} {p : ℕ} {o : Result (ℕ × ℕ) Fault} (h : Reads img (number_read last_count) p o) where
+  pub list-stop : {s : Source} {f : Fault} → o ≡ Err f → Ended s → ListOf img u p s
   unfolding rows_from
-  list-stop e d = let z = rw e at h.reads.same in record { are = rw (z, d.none_left) }
+  list-stop e d = let z = (rw e at h).same in record { are = rw (z, d.none_left) }
 
-  pub list-rows : {q : ℕ} → next ≡ At q → ListOf img u p (record { at = q; left = n; what = u })
-  list-rows {q} e =
-      let g : Reads img (number_read last_count) (At p) n (At q) = rw e at h.reads in
+  pub list-rows : {n q : ℕ} → o ≡ Ok (n, q) → ListOf img u p (record { at = q; left = n; what = u })
+  list-rows {n} {q} e =
+      let g = rw e at h in
       let z : q ≡ p + length (number_bytes n) = read-on img (number_to last_count refl) (number_to-one last_count refl) n p q (number-one n) g.within g.same in
       record { are = rw (g.same, z) }
+
+pub ruleset lists = (list-stop, list-rows)

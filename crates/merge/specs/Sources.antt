@@ -1,22 +1,22 @@
 -- Lists by name as sources of a listing. Document 01: "From the bottom: tombstone clears, a directory delta removes then adds, other kinds
 -- do nothing." So the topmost list that has a name decides it: the name is given, with its start and an inode or a value, or removed.
-use Rattle.std.specs.Prelude.{◌≡◌, Bool, true, false, List, [], ◌∷◌, ◌++◌, ℕ, zero, suc, ◌+◌, ◌-◌, ◌≤◌, length, drop, None, Option, Some}
+use Rattle.std.specs.Prelude.{◌≡◌, Bool, true, false, List, [], ◌∷◌, ◌++◌, ℕ, zero, suc, ◌+◌, ◌-◌, ◌≤◌, length, drop, Result, IfOk, IfErr, None, Option, Some}
 use Rattle.wire.specs.Parse.{Parsed, fault, got, bind}
 use Rattle.wire.specs.Combinators.{◌then◌}
 use Rattle.wire.specs.Number.{number_bytes, number_read}
 use Rattle.wire.specs.Lists.{last_count}
-use Rattle.wire.specs.Reading.{part, Reads}
-use Rattle.wire.specs.declared.cursor.Cursor.{Cursor}
+use Rattle.wire.specs.Reading.{part, Reads, meant}
+use Rattle.wire.specs.declared.fault.Fault.{Fault}
 use Rattle.image.specs.Meaning.{Text}
 use Rattle.image.specs.FieldLayout.{name}
 use Rattle.image.specs.Under.{UnderName, under}
 use Rattle.image.specs.declared.name.Under.{Under}
 use Rattle.image.specs.declared.name.Under.TheVariants as U
-use Rattle.wire.specs.declared.text.Part.{Part}
 use Rattle.nodes.specs.Options.{text_at}
 use Rattle.rules.specs.Changes.{map_if}
 use Rattle.merge.specs.declared.source.Source.{Source}
 use Rattle.merge.specs.declared.source.Head.{Head}
+use Rattle.merge.specs.declared.source.Choice.{Choice}
 
 -- what a name is given: an inode; a value
 abbrev pub Given : Type 0
@@ -42,14 +42,6 @@ chosen false g = None
 
 abbrev pub chosen_read : Under → List ℕ → Parsed (Option Given)
 chosen_read u s = bind ((under u).read s) (λ v r. got (choice u v) r)
-
-abbrev pub is_set : Option Part → Bool
-is_set (Some p) = true
-is_set None = false
-
-abbrev pub value_of : Option Part → Part
-value_of (Some p) = p
-value_of None = record { start = 0; «length» = 0 }
 
 abbrev pub rows_if : {A B : Type 0} → Parsed A → (A → List B) → List B
 rows_if (fault f) g = []
@@ -81,8 +73,11 @@ rows_if_more false r l = []
 
 -- ---- what the readers of a source promise
 
-pub record Chooses (img : List ℕ) (u : Under) (at : Cursor) (given : Bool) (inode : ℕ) (value : Part) (next : Cursor) : Type 0 where
-  pub reads : Reads img (chosen_read u) at (chosen given (inode, text_at img value)) next
+abbrev pub choice_meant : List ℕ → Choice → Option Given
+choice_meant img c = chosen c.given (c.inode, text_at img c.value)
+
+pub record Chooses (img : List ℕ) (u : Under) (at : ℕ) (r : Result (Choice × ℕ) Fault) : Type 0 where
+  pub reads : Reads img (chosen_read u) at (meant (choice_meant img) r)
 
 pub record Ended (s : Source) : Type 0 where
   pub none_left : s.left ≡ 0
@@ -99,6 +94,11 @@ pub record Inside (img : List ℕ) (h : Head) : Type 0 where
 pub record HeadOf (img : List ℕ) (u : Under) (n p : ℕ) (h : Head) : Type 0 where
   pub are : rows_from img u n p ≡ rows_if_more h.more (row_at img h) (rows_from img u (n - 1) h.next)
   pub inside : Inside img h
+
+-- the same, where it is read; where it isn't, there are none
+pub record FirstRow (img : List ℕ) (u : Under) (n p : ℕ) (r : Result Head Fault) : Type 0 where
+  pub row : IfOk r (HeadOf img u n p)
+  pub none : IfErr r (λ f. rows_from img u n p ≡ [])
 
 pub record ListOf (img : List ℕ) (u : Under) (p : ℕ) (s : Source) : Type 0 where
   pub are : source_rows img s ≡ list_rows img u p

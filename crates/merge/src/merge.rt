@@ -2,13 +2,13 @@
 ghost use Rattle.std.specs.Prelude.{◌+◌, ◌≤◌, ◌<◌, length, ◌≡◌};
 ghost use Rattle.merge.specs.Merges.{Whole, NoSources, how_many, PushesOne, PushesLists, lists_if, rows_in, sources, Upper, Least, Passed, PassedAll, Ready, decided_rows, Gives, Settles, count_of};
 
-use std::cmp::Ordering;
 use crate::slots::{set_source, source_of};
 use crate::source::{Head, Source, head_of, no_head, source_at};
 use image::name::Under;
-use wire::text::Part;
+use std::cmp::Ordering;
 use wire::order::compare_part;
 use wire::part::part;
+use wire::text::Part;
 
 // The sources of a listing, `count` of them, the topmost first: at most two lists of each record, and one of the base. Three numbers of each.
 #[derive(Clone, Copy)]

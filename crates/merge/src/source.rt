@@ -1,14 +1,14 @@
 // Sources of a listing: lists by name in the image, each at one of its rows.
-ghost use Rattle.std.specs.Prelude.{◌≡◌};
-ghost use Rattle.wire.specs.Reading.{cursor_in};
+ghost use Rattle.std.specs.Prelude.{◌≡◌, false, ◌≤◌, length};
 ghost use Rattle.image.specs.declared.name.Under.TheVariants as U;
-ghost use Rattle.merge.specs.Sources.{is_set, value_of, Chooses, Ended, NoRow, HeadOf, ListOf};
+ghost use Rattle.merge.specs.Sources.{Chooses, Ended, NoRow, FirstRow, HeadOf, ListOf};
 
-use wire::text::{Part, read_text};
+use image::field::LAST_WORD;
 use image::name::Under;
 use nodes::option::read_maybe_text;
-use wire::cursor::Cursor;
+use wire::fault::Fault;
 use wire::number::read_number;
+use wire::text::{Part, read_text};
 
 // A list by name, of which `left` rows stand from `at` on.
 #[derive(Clone, Copy)]
@@ -30,82 +30,76 @@ pub struct Head {
     pub next: usize,
 }
 
+// What stands under a name: whether the name is given, with which inode, and with which value; where there is none, 0 and an empty text.
 #[derive(Clone, Copy)]
 pub struct Choice {
     pub given: bool,
     pub inode: u64,
     pub value: Part,
-    pub next: Cursor,
+}
+
+// An entry's inode.
+#[tactic(auto, using(crate::proofs::Sourced::choices))]
+fn read_inode(img: &[u8], at: usize) -> Result<(Choice, usize), Fault>
+    ensures { Chooses img.now U.Inode at result }
+{
+    let (inode, next) = read_number(img, at, u64::MAX)?;
+    let choice = Choice {
+        given: true,
+        inode,
+        value: no_value(),
+    };
+    Ok((choice, next))
 }
 
 // An attribute's value.
-fn read_value(img: &[u8], at: Cursor) -> Choice
-    requires { cursor_in img.now at }
-    ensures { Chooses img.now U.Value at result.given result.inode result.value result.next }
+#[tactic(auto, using(crate::proofs::Sourced::choices))]
+fn read_value(img: &[u8], at: usize) -> Result<(Choice, usize), Fault>
+    ensures { Chooses img.now U.Value at result }
 {
-    let text = read_text(img, at, 0, 4096);
-    let next = text.next;
-    let value = Part {
-        start: text.start,
-        length: text.length,
-    };
-    Choice {
+    let (value, next) = read_text(img, at, 0, 4096)?;
+    let choice = Choice {
         given: true,
         inode: 0,
         value,
-        next,
-    }
+    };
+    Ok((choice, next))
 }
 
 // The change of an attribute: a value, or that it is removed.
-fn read_change(img: &[u8], at: Cursor) -> Choice
-    requires { cursor_in img.now at }
-    ensures { Chooses img.now U.Change at result.given result.inode result.value result.next }
+#[tactic(auto, using(crate::proofs::Sourced::choices))]
+fn read_change(img: &[u8], at: usize) -> Result<(Choice, usize), Fault>
+    ensures { Chooses img.now U.Change at result }
 {
-    let change = read_maybe_text(img, at, 4096);
-    let option = change.option;
-    let next = change.next;
-    Choice {
-        given: is_set(option),
+    let (change, next) = read_maybe_text(img, at, 4096)?;
+    let choice = Choice {
+        given: change.is_some(),
         inode: 0,
-        value: value_of(option),
-        next,
-    }
+        value: change.unwrap_or(no_value()),
+    };
+    Ok((choice, next))
 }
 
-// What stands under a name: whether the name is given, with which inode, and with which value; where there is none, 0 and an empty text.
-fn read_choice(img: &[u8], at: Cursor, what: Under) -> Choice
-    requires { cursor_in img.now at }
-    ensures { Chooses img.now what at result.given result.inode result.value result.next }
+// What stands under a name, and the place after it.
+fn read_choice(img: &[u8], at: usize, what: Under) -> Result<(Choice, usize), Fault>
+    requires { at ≤ length img.now }
+    ensures { Chooses img.now what at result }
 {
     match what {
-        Under::Nothing => Choice {
-            given: false,
-            inode: 0,
-            value: no_value(),
-            next: at,
-        },
-        Under::Inode => {
-            let number = read_number(img, at, 0xFFFF_FFFF_FFFF_FFFF);
-            let next = number.next;
-            Choice {
-                given: true,
-                inode: number.value,
-                value: no_value(),
-                next,
-            }
-        }
+        Under::Nothing => Ok((no_choice(), at)),
+        Under::Inode => read_inode(img, at),
         Under::Value => read_value(img, at),
         Under::Change => read_change(img, at),
     }
 }
 
-fn is_set(value: Option<Part>) -> bool
-    ensures { result ≡ is_set value }
+fn no_choice() -> Choice
+    ensures { result.given ≡ false }
 {
-    match value {
-        Some(_) => true,
-        None => false,
+    Choice {
+        given: false,
+        inode: 0,
+        value: no_value(),
     }
 }
 
@@ -116,18 +110,6 @@ pub fn no_value() -> Part
     Part {
         start: 0,
         length: 0,
-    }
-}
-
-fn value_of(value: Option<Part>) -> Part
-    ensures { result ≡ value_of value }
-{
-    match value {
-        Some(text) => text,
-        None => Part {
-            start: 0,
-            length: 0,
-        },
     }
 }
 
@@ -163,38 +145,40 @@ pub fn head_of(img: &[u8], source: Source) -> Head
     if source.left == 0 {
         return no_head();
     }
+    first_row(img, source).unwrap_or(no_head())
+}
+
+// The first row of a source that has one left.
+fn first_row(img: &[u8], source: Source) -> Result<Head, Fault>
+    requires { source.left ≡ 0 → ⊥ }
+    ensures { FirstRow img.now source.what source.left source.at result }
+{
     let what = source.what;
-    let name = read_text(img, Cursor::At(source.at), 1, 255);
-    let named = name.next;
-    let choice = read_choice(img, named, what);
+    let (name, named) = read_text(img, source.at, 1, 255)?;
+    let (choice, next) = read_choice(img, named, what)?;
     let value = choice.value;
-    let end = choice.next;
-    match end {
-        Cursor::At(next) => Head {
-            more: true,
-            start: name.start,
-            length: name.length,
-            given: choice.given,
-            inode: choice.inode,
-            value,
-            next,
-        },
-        Cursor::Stop(_) => no_head(),
-    }
+    Ok(Head {
+        more: true,
+        start: name.start,
+        length: name.length,
+        given: choice.given,
+        inode: choice.inode,
+        value,
+        next,
+    })
 }
 
 // The source of the list at `at`.
+#[tactic(auto, using(crate::proofs::Sourced::lists))]
 pub fn source_at(img: &[u8], at: usize, what: Under) -> Source
     ensures { ListOf img.now what at result }
 {
-    let count = read_number(img, Cursor::At(at), 0xFFFF_FFFF);
-    let next = count.next;
-    match next {
-        Cursor::At(first) => Source {
+    match read_number(img, at, LAST_WORD) {
+        Ok((left, first)) => Source {
             at: first,
-            left: count.value,
+            left,
             what,
         },
-        Cursor::Stop(_) => no_source(),
+        Err(_) => no_source(),
     }
 }

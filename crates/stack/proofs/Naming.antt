@@ -1,18 +1,18 @@
 -- Calls that are given a name: refusal 3 comes after 1 and 2.
 -- Assumes nothing.
-use Rattle.std.specs.Prelude.{Option}
-use mathlib.Core.Path.{◌≡◌, refl, sym, ap, ◌∙◌}
+use Rattle.std.specs.Prelude.{Result, Ok, Err, None, Option, Some}
+use mathlib.Core.Path.{◌≡◌, refl, sym, ◌∙◌}
 use mathlib.Core.Bool.{Bool, true, false}
 use mathlib.Core.List.{List, [], ◌∷◌}
-use Prim.Native.Nat.{ℕ, zero, suc, ◌≤◌, ◌<◌}
-use native.Mathlib.Omega.{arith}
+use Prim.Native.Nat.{ℕ, ◌≤◌, ◌<◌}
 use lib.Dec.{ltb}
 use lib.ListN.{length}
 use borrow.Author.Tests.{le-leb, lt-leb, ltb-true, ltb-false}
 use Rattle.image.specs.Meaning.{Text, Store}
-use Rattle.survey.specs.Verdict.{refusal_number, verdict_of}
-use Rattle.survey.specs.declared.store.Verdict.{Verdict}
-use Rattle.survey.specs.declared.store.Verdict.TheVariants as D
+use Rattle.survey.specs.Verdict.{number_of, verdict_of}
+use Rattle.survey.specs.declared.batch.InodeLayerStack.{InodeLayerStack}
+use Rattle.survey.specs.declared.refusal.Refusal.{Refusal}
+use Rattle.survey.specs.declared.refusal.Refusal.TheVariants.{BadName}
 use Rattle.rules.specs.Initial.{usual}
 use Rattle.rules.specs.Answers.{Answer, refused, answer, first_of, unless}
 use Rattle.rules.specs.Reads.{child, attribute}
@@ -20,9 +20,8 @@ use Rattle.rules.specs.Views.{view_at}
 use Rattle.rules.specs.Asks.{Ask, bad_name, reply}
 use Rattle.rules.specs.ReadCalls.{over_image, lookup_child, get_xattr}
 use Rattle.rules.proofs.Asked.{over-fine, verdict-fine, verdict-refused}
-use Rattle.stack.specs.declared.stack.Opened.{Opened}
 use Rattle.stack.specs.Stacks.{shown, Opens}
-use Rattle.stack.specs.Named.{named_number, OpensNamed}
+use Rattle.stack.specs.Named.{named_verdict, OpensNamed}
 use Rattle.stack.proofs.Opening.{opened-fine}
 
 -- ---- a bad name
@@ -40,56 +39,54 @@ module _ (name : Text) where
 
 -- ---- the image opened
 
-module _ {img : List ℕ} {i : ℕ} {r : Opened} (o : Opens img i r) (name : Text) where
-  pub named-bad : r.refusal ≡ 0 → bad_name name ≡ true → OpensNamed img i name (record { stack = r.stack; refusal = 3 })
-  named-bad z b = record { number = rw (← o.number, z, b); stack = λ e. absurd (omega arith) }
+module _ {img : List ℕ} {i : ℕ} {name : Text} {o : Result InodeLayerStack Refusal} (h : Opens img i o) where
+  pub named-stop : {f : Refusal} {r : Result InodeLayerStack Refusal} → o ≡ Err f → r ≡ Err f → OpensNamed img i name r
+  named-stop d e = let g = rw d at h in rw e (record { verdict = rw (← g.verdict); stack = tt })
 
-  pub named-good : r.refusal ≡ 0 → bad_name name ≡ false → OpensNamed img i name r
-  named-good z b = record { number = rw (← o.number, z, b); stack = o.stack }
+  module _ {s : InodeLayerStack} (d : o ≡ Ok s) where
+    pub named-bad : bad_name name ≡ true → OpensNamed img i name (Err BadName)
+    named-bad b = let g = rw d at h in record { verdict = rw (← g.verdict, b); stack = tt }
 
-  pub named-kept : (r.refusal ≡ 0 → ⊥) → OpensNamed img i name r
-  named-kept z = record { number = rw (← o.number) (go r.refusal z); stack = o.stack }
-    where
-      go : (n : ℕ) → (n ≡ 0 → ⊥) → n ≡ named_number n name
-      go zero z = absurd (z refl)
-      go (suc n) z = refl
+    pub named-good : bad_name name ≡ false → OpensNamed img i name (Ok s)
+    named-good b = let g = rw d at h in record { verdict = rw (← g.verdict, b); stack = g.stack }
 
 -- ---- the calls
 
-module _ {img : List ℕ} {i : ℕ} {name : Text} {r : Opened} (w : OpensNamed img i name r) where
-  refused-by : {A : Type 0} (g : Store → A) → (r.refusal ≡ 0 → ⊥) → over_image (λ s. unless (first_of ((3, bad_name name) ∷ [])) (g s)) img ≡ refused r.refusal
-  refused-by {A} g z = go (verdict_of img) refl (bad_name name) refl w.number
+module _ {img : List ℕ} {i : ℕ} {name : Text} {o : Result InodeLayerStack Refusal} (w : OpensNamed img i name o) where
+  refused-by : {A : Type 0} (g : Store → A) {r : Refusal} → o ≡ Err r → over_image (λ s. unless (first_of ((3, bad_name name) ∷ [])) (g s)) img ≡ refused (number_of r)
+  refused-by {A} g {r} d = go (verdict_of img) refl (bad_name name) refl (rw d at w).verdict
     where
-      f : Store → Answer A
-      f s = unless (first_of ((3, bad_name name) ∷ [])) (g s)
+      call : Store → Answer A
+      call s = unless (first_of ((3, bad_name name) ∷ [])) (g s)
 
-      go : (v : Verdict) → verdict_of img ≡ v → (b : Bool) → bad_name name ≡ b → r.refusal ≡ named_number (refusal_number v) name → over_image f img ≡ refused r.refusal
-      go D.TooLong ev b eb n = verdict-refused f img 1 (rw ev) ∙ ap refused (sym n)
-      go D.Broken ev b eb n = verdict-refused f img 2 (rw ev) ∙ ap refused (sym n)
-      go D.Fine ev true eb n = let s = verdict-fine img ev in over-fine f img s.2 s.1 ∙ rw (n, eb)
-      go D.Fine ev false eb n = absurd (z (n ∙ rw eb))
+      go : (v : Option Refusal) → verdict_of img ≡ v → (b : Bool) → bad_name name ≡ b → Some r ≡ named_verdict v name → over_image call img ≡ refused (number_of r)
+      go (Some x) ev b eb n = verdict-refused call img r (ev ∙ sym n)
+      go None ev true eb n =
+          let s = verdict-fine img ev in
+          let z : r ≡ BadName = (let y = rw eb at n in cc) in
+          over-fine call img s.2 s.1 ∙ rw (eb, z)
+      go None ev false eb n = absurd (let y = rw eb at n in cc)
 
-  named-opens : r.refusal ≡ 0 → Opens img i r × (bad_name name ≡ false)
-  named-opens z = go (verdict_of img) refl (bad_name name) refl w.number
+  named-opens : {s : InodeLayerStack} → o ≡ Ok s → Opens img i o × (bad_name name ≡ false)
+  named-opens {s} d = go (verdict_of img) refl (bad_name name) refl (rw d at w).verdict
     where
-      go : (v : Verdict) → verdict_of img ≡ v → (b : Bool) → bad_name name ≡ b → r.refusal ≡ named_number (refusal_number v) name → Opens img i r × (bad_name name ≡ false)
-      go D.TooLong ev b eb n = absurd (omega arith)
-      go D.Broken ev b eb n = absurd (omega arith)
-      go D.Fine ev true eb n = absurd (let y : 3 ≡ 0 = sym (rw eb at n) ∙ z in omega arith)
-      go D.Fine ev false eb n = (record { number = rw (z, ev); stack = w.stack }, eb)
+      go : (v : Option Refusal) → verdict_of img ≡ v → (b : Bool) → bad_name name ≡ b → None ≡ named_verdict v name → Opens img i o × (bad_name name ≡ false)
+      go (Some x) ev b eb n = absurd cc
+      go None ev true eb n = absurd (let y = rw eb at n in cc)
+      go None ev false eb n = let g = rw d at w in (rw d (record { verdict = rw ev; stack = g.stack }), eb)
 
-  pub child-refused : (r.refusal ≡ 0 → ⊥) → lookup_child usual img i name ≡ refused r.refusal
+  pub child-refused : {r : Refusal} → o ≡ Err r → lookup_child usual img i name ≡ refused (number_of r)
   unfolding reply
-  child-refused z = refused-by (λ s. (view_at usual s i).child name) z
+  child-refused d = refused-by (λ s. (view_at usual s i).child name) d
 
-  pub child-fine : r.refusal ≡ 0 → {o : Option ℕ} → o ≡ shown (child name) img r.stack → lookup_child usual img i name ≡ answer o
+  pub child-fine : {s : InodeLayerStack} → o ≡ Ok s → {a : Option ℕ} → a ≡ shown (child name) img s → lookup_child usual img i name ≡ answer a
   unfolding reply
-  child-fine z e = let p = named-opens z in opened-fine p.0 usual (Ask.child i name) refl z ∙ rw (p.1, e)
+  child-fine d e = let p = named-opens d in opened-fine p.0 usual (Ask.child i name) refl d ∙ rw (p.1, e)
 
-  pub xattr-refused : (r.refusal ≡ 0 → ⊥) → get_xattr usual img i name ≡ refused r.refusal
+  pub xattr-refused : {r : Refusal} → o ≡ Err r → get_xattr usual img i name ≡ refused (number_of r)
   unfolding reply
-  xattr-refused z = refused-by (λ s. (view_at usual s i).attribute name) z
+  xattr-refused d = refused-by (λ s. (view_at usual s i).attribute name) d
 
-  pub xattr-fine : r.refusal ≡ 0 → {o : Option Text} → o ≡ shown (attribute name) img r.stack → get_xattr usual img i name ≡ answer o
+  pub xattr-fine : {s : InodeLayerStack} → o ≡ Ok s → {a : Option Text} → a ≡ shown (attribute name) img s → get_xattr usual img i name ≡ answer a
   unfolding reply
-  xattr-fine z e = let p = named-opens z in opened-fine p.0 usual (Ask.attribute i name) refl z ∙ rw (p.1, e)
+  xattr-fine d e = let p = named-opens d in opened-fine p.0 usual (Ask.attribute i name) refl d ∙ rw (p.1, e)

@@ -1,7 +1,7 @@
 -- What every walk over a stack needs: each of its records is read, and stands on those below it.
 -- Assumes nothing.
 use Rattle.nodes.specs.declared.node.Node.{Node}
-use Rattle.std.specs.Prelude.{None, Option, Some}
+use Rattle.std.specs.Prelude.{Result, Ok, Err, IsOk, None, Option, Some}
 use mathlib.Core.Path.{◌≡◌, refl, sym, ap, ◌∙◌}
 use mathlib.Core.List.{List, [], ◌∷◌}
 use Prim.Native.Nat.{ℕ, zero, suc, ◌+◌, ◌-◌, ◌≤◌, ◌<◌}
@@ -9,8 +9,7 @@ use native.Mathlib.Numerals.{add-one}
 use native.Mathlib.Omega.{arith}
 use lib.ListN.{length, drop, get_or, length-take}
 use lib.Seq.{take-suc, get_or-take}
-use Rattle.wire.specs.declared.cursor.Cursor.{Cursor}
-use Rattle.wire.specs.declared.cursor.Cursor.TheVariants.{At, Stop}
+use Rattle.wire.specs.declared.fault.Fault.{Fault}
 use Rattle.wire.specs.Parse.{got, never-got}
 use Rattle.image.specs.Meaning.{Record}
 use Rattle.image.specs.RecordLayout.{layer_record}
@@ -23,7 +22,7 @@ use Rattle.nodes.specs.declared.node.Node as N
 use Rattle.deltas.specs.declared.delta.EntryDelta.{EntryDelta}
 use Rattle.nodes.specs.Nodes.{ReadsNode}
 use Rattle.deltas.specs.Deltas.{entry_meant, ReadsEntry}
-use Rattle.stack.specs.Stacks.{AllRead, Stacked, records_under, shown_under, shown, RecordIs, NodeIs, BaseIs, node_meant_if}
+use Rattle.stack.specs.Stacks.{AllRead, Stacked, records_under, shown_under, shown, RecordIs, BaseIs, node_meant_if}
 
 -- ---- what is read at a place
 
@@ -38,12 +37,12 @@ module _ {img : List ℕ} {s : InodeLayerStack} (h : Stacked img s) where
   record-read i l = rw (get_or-take s.count s.deltas i 0 l) at (all-at img (deltas_of s) i h.records (rw length-take (omega (arith, h.few, h.wide))))
 
   -- a record of the stack is read whole
-  pub record_is : (i : ℕ) {e : EntryDelta} {next : Cursor} → i < s.count → ReadsEntry img (At (get_or s.deltas i 0)) e next → RecordIs img (get_or s.deltas i 0) e
-  record_is i {e} {next} l g = go next g
+  pub record-ok : (i : ℕ) {o : Result (EntryDelta × ℕ) Fault} → i < s.count → ReadsEntry img (get_or s.deltas i 0) o → IsOk o
+  record-ok i {o} l g = go o g
     where
-      go : (next : Cursor) → ReadsEntry img (At (get_or s.deltas i 0)) e next → RecordIs img (get_or s.deltas i 0) e
-      go (At q) g = record { end = q; reads = g }
-      go (Stop f) g = let a = record-read i l in never-got (sym g.reads.same ∙ a.2)
+      go : (o : Result (EntryDelta × ℕ) Fault) → ReadsEntry img (get_or s.deltas i 0) o → IsOk o
+      go (Ok r) g = refl
+      go (Err f) g = let a = record-read i l in never-got (sym g.reads.same ∙ a.2)
 
   -- and stands on top of those below it
   pub records-more : (i : ℕ) {e : EntryDelta} → i < s.count → RecordIs img (get_or s.deltas i 0) e
@@ -57,12 +56,19 @@ module _ {img : List ℕ} {s : InodeLayerStack} (h : Stacked img s) where
   shown-more R i l g = rw (records-more i l g)
 
   -- the node of the stack is read whole
-  pub base-is : {p : ℕ} {n : N.Node} {next : Cursor} → s.base ≡ Some p → ReadsNode img (At p) n next → BaseIs img s.base (Some n)
-  base-is {p} {n} {next} e g = rw e (go next g)
+  pub node-ok : {p : ℕ} {o : Result (N.Node × ℕ) Fault} → s.base ≡ Some p → ReadsNode img p o → IsOk o
+  node-ok {p} {o} e g = go o g
     where
-      go : (next : Cursor) → ReadsNode img (At p) n next → NodeIs img p n
-      go (At q) g = record { end = q; reads = g }
-      go (Stop f) g = let a = rw e at h.node in never-got (sym g.reads.same ∙ a.2)
+      go : (o : Result (N.Node × ℕ) Fault) → ReadsNode img p o → IsOk o
+      go (Ok r) g = refl
+      go (Err f) g = let a = rw e at h.node in never-got (sym g.reads.same ∙ a.2)
+
+-- what was read at a place
+pub record_is : {img : List ℕ} {p end : ℕ} {e : EntryDelta} {o : Result (EntryDelta × ℕ) Fault} → ReadsEntry img p o → o ≡ Ok (e, end) → RecordIs img p e
+record_is {end = end} g d = record { end = end; reads = rw d at g }
+
+pub base-is : {img : List ℕ} {b : Option ℕ} {p end : ℕ} {n : N.Node} {o : Result (N.Node × ℕ) Fault} → b ≡ Some p → ReadsNode img p o → o ≡ Ok (n, end) → BaseIs img b (Some n)
+base-is {end = end} e g d = rw e (record { end = end; reads = rw d at g })
 
 -- ---- the base
 

@@ -1,14 +1,15 @@
 -- The stack of an inode, as places in the image.
 use Rattle.attrs.specs.declared.node.FileType.{FileType}
-use Rattle.std.specs.Prelude.{◌≡◌, List, [], ◌∷◌, ℕ, ◌≤◌, length, take, drop, None, Option, Some}
-use Rattle.wire.specs.declared.cursor.Cursor.TheVariants as C
+use Rattle.std.specs.Prelude.{◌≡◌, List, [], ◌∷◌, ℕ, ◌≤◌, length, take, drop, Result, Ok, IfOk, None, Option, Some}
+use Rattle.std.specs.Result.{result_err}
 use Rattle.wire.specs.Parse.{got}
 use Rattle.survey.specs.declared.batch.InodeLayerStack.{InodeLayerStack}
 use Rattle.image.specs.Meaning.{Kind, Node, Record}
 use Rattle.image.specs.NodeLayout.{node}
 use Rattle.image.specs.RecordLayout.{layer_record}
 use Rattle.survey.specs.Gathering.{deltas_of}
-use Rattle.survey.specs.Verdict.{refusal_number, verdict_of}
+use Rattle.survey.specs.Verdict.{verdict_of}
+use Rattle.survey.specs.declared.refusal.Refusal.{Refusal}
 use Rattle.rules.specs.Starts.{Placed}
 use Rattle.rules.specs.PlacedStacks.{node_place, record_places, records_on, node_at, unplaced, unplaced_node}
 use Rattle.rules.specs.Reads.{Read, look}
@@ -16,7 +17,6 @@ use Rattle.nodes.specs.declared.node.Node as N
 use Rattle.deltas.specs.declared.delta.EntryDelta.{EntryDelta}
 use Rattle.nodes.specs.Nodes.{node_meant, ReadsNode}
 use Rattle.deltas.specs.Deltas.{ReadsEntry}
-use Rattle.stack.specs.declared.stack.Opened.{Opened}
 use Rattle.attrs.specs.Meant.{kind_meant}
 
 -- something is read at each place
@@ -59,21 +59,21 @@ pub record StackOf (img : List ℕ) (i : ℕ) (s : InodeLayerStack) : Type 0 whe
   pub node_is : s.base ≡ node_place img i
   pub records_are : deltas_of s ≡ record_places img i
 
--- "Always first: 1, 2": the refusal's number, and the stack where there is none
-pub record Opens (img : List ℕ) (i : ℕ) (r : Opened) : Type 0 where
-  pub number : r.refusal ≡ refusal_number (verdict_of img)
-  pub stack : r.refusal ≡ 0 → StackOf img i r.stack
+-- "Always first: 1, 2": the refusal, or the stack where there is none
+pub record Opens (img : List ℕ) (i : ℕ) (r : Result InodeLayerStack Refusal) : Type 0 where
+  pub verdict : result_err r ≡ verdict_of img
+  pub stack : IfOk r (λ s. StackOf img i s)
 
 -- ---- what stands at the places of a stack, by value
 
 -- a record was read whole
 pub record RecordIs (img : List ℕ) (p : ℕ) (e : EntryDelta) : Type 0 where
   pub end : ℕ
-  pub reads : ReadsEntry img (C.At p) e (C.At end)
+  pub reads : ReadsEntry img p (Ok (e, end))
 
 pub record NodeIs (img : List ℕ) (p : ℕ) (n : N.Node) : Type 0 where
   pub end : ℕ
-  pub reads : ReadsNode img (C.At p) n (C.At end)
+  pub reads : ReadsNode img p (Ok (n, end))
 
 -- the node at a place; no place, no node
 abbrev pub BaseIs : List ℕ → Option ℕ → Option N.Node → Type 0

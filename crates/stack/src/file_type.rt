@@ -5,10 +5,10 @@ ghost use Rattle.rules.specs.Reads.{type, base_type, step_type};
 ghost use Rattle.deltas.specs.Deltas.{entry_meant};
 ghost use Rattle.stack.specs.Stacks.{node_meant_if, type_of, Stacked, shown};
 
-use nodes::node::Node;
 use crate::stack::{base_node, record_at};
 use attrs::node::{FileType, delta_type, kind_type};
 use deltas::delta::EntryDelta;
+use nodes::node::Node;
 use survey::batch::InodeLayerStack;
 
 // The type of a base node, if there is one.

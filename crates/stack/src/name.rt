@@ -3,7 +3,9 @@ ghost use Rattle.std.specs.Prelude.{◌≡◌};
 ghost use Rattle.rules.specs.Asks.{bad_name};
 ghost use Rattle.stack.specs.Named.{OpensNamed};
 
-use crate::stack::{Opened, open_image};
+use crate::stack::open_image;
+use survey::batch::InodeLayerStack;
+use survey::refusal::Refusal;
 
 // A name is from 1 to 255 bytes long.
 pub fn bad_name(name: &[u8]) -> bool
@@ -16,15 +18,12 @@ pub fn bad_name(name: &[u8]) -> bool
 }
 
 // The image opened for a call that is given a name: refusal 3 comes after 1 and 2.
-pub fn open_named(img: &[u8], ino: u64, name: &[u8]) -> Opened
+pub fn open_named(img: &[u8], ino: u64, name: &[u8]) -> Result<InodeLayerStack, Refusal>
     ensures { OpensNamed img.now ino name.now result }
 {
-    let opened = open_image(img, ino);
-    if opened.refusal == 0 {
-        if bad_name(name) {
-            let stack = opened.stack;
-            return Opened { stack, refusal: 3 };
-        }
+    let stack = open_image(img, ino)?;
+    if bad_name(name) {
+        return Err(Refusal::BadName);
     }
-    opened
+    Ok(stack)
 }

@@ -5,28 +5,16 @@ ghost use Rattle.stack.specs.Stacks.{Opens, Stacked, RecordIs, BaseIs};
 use deltas::delta::{EntryDelta, read_entry_delta};
 use nodes::node::{Node, read_node};
 use survey::batch::InodeLayerStack;
-use survey::store::{read_image, refusal_number};
-use wire::cursor::Cursor;
-
-// The refusal is 0 if there is none; with one, the stack says nothing.
-#[derive(Clone, Copy)]
-pub struct Opened {
-    pub stack: InodeLayerStack,
-    pub refusal: u32,
-}
+use survey::refusal::Refusal;
+use survey::store::read_image;
 
 // The one pass over the image that every call starts with.
-pub fn open_image(img: &[u8], ino: u64) -> Opened
+pub fn open_image(img: &[u8], ino: u64) -> Result<InodeLayerStack, Refusal>
     ensures { Opens img.now ino result }
 {
-    let read = read_image(img, ino);
-    let verdict = read.verdict;
-    let survey = read.survey;
+    let survey = read_image(img, ino)?;
     let stack = survey.stack;
-    Opened {
-        stack,
-        refusal: refusal_number(verdict),
-    }
+    Ok(stack)
 }
 
 // The base node of a stack.
@@ -37,8 +25,7 @@ pub fn base_node(img: &[u8], stack: InodeLayerStack) -> Option<Node>
     let base = stack.base;
     match base {
         Some(place) => {
-            let read = read_node(img, Cursor::At(place));
-            let node = read.node;
+            let (node, _) = read_node(img, place).unwrap();
             Some(node)
         }
         None => None,
@@ -51,6 +38,6 @@ pub fn record_at(img: &[u8], stack: InodeLayerStack, i: usize) -> EntryDelta
     ensures { RecordIs img.now (get_or stack.deltas i 0) result }
 {
     let place = stack.deltas[i];
-    let read = read_entry_delta(img, Cursor::At(place));
-    read.delta
+    let (entry, _) = read_entry_delta(img, place).unwrap();
+    entry
 }

@@ -5,36 +5,35 @@ use mathlib.Core.List.{List, [], ◌∷◌, ◌++◌, append_assoc}
 use Prim.Native.Nat.{ℕ, zero, suc, ◌+◌, ◌*◌, ◌-◌, ◌≤◌, ◌<◌}
 use native.Mathlib.Omega.{arith}
 use lib.ListN.{length, drop}
-use Rattle.wire.specs.declared.cursor.Fault.{Fault}
-use Rattle.wire.specs.declared.cursor.Cursor.{Cursor}
-use Rattle.wire.specs.declared.cursor.Cursor.TheVariants.{At, Stop}
-use Rattle.wire.specs.Parse.{fault, got}
+use Rattle.std.specs.Prelude.{Result, Ok, Err}
+use Rattle.std.specs.Result.{result_unwrap_or}
+use Rattle.wire.specs.declared.fault.Fault.{Fault}
+use Rattle.wire.proofs.Readers.{number-most}
 use Rattle.wire.specs.Number.{number_read}
 use Rattle.wire.specs.Lists.{Every}
-use Rattle.wire.specs.Reading.{Reads, Answers, place_at}
+use Rattle.wire.specs.Reading.{Reads, meant}
 use Rattle.image.specs.Meaning.{Batch}
 use Rattle.image.specs.Fits.{FitsBatch}
 use Rattle.rules.specs.Refusals.{sum_of}
 use Rattle.waiting.specs.Queues.{head_bytes, head_operations, sum_from, Totalled, QueueAt}
 use Rattle.waiting.specs.declared.batch.Queue.{Queue}
+use Rattle.writers.specs.Batches.{head_meant}
+use Rattle.writers.specs.declared.batch.BatchHead.{BatchHead}
 use Rattle.change.specs.Batches.{HeadParts, pass_batch}
 use Rattle.change.proofs.Batches.{head_of, batch_bytes, queue_bytes, pass-back}
 
 -- ---- sums
 
-module _ (f : HeadParts → ℕ) {img : List ℕ} {here : ℕ} {h : HeadParts} (next : Cursor) (r : Reads img pass_batch (At here) h next) where
-  sum-on : (n : ℕ) {q : ℕ} → 0 < n → next ≡ At q → sum_from f n (drop here img) ≡ f h + sum_from f (n - 1) (drop q img)
+module _ (f : HeadParts → ℕ) {img : List ℕ} {here : ℕ} where
+  sum-on : {h : HeadParts} {q : ℕ} → Reads img pass_batch here (Ok (h, q)) → (n : ℕ) → 0 < n → sum_from f n (drop here img) ≡ f h + sum_from f (n - 1) (drop q img)
   unfolding sum_from
-  sum-on zero l e = absurd (omega arith)
-  sum-on (suc n) {q} l e =
-      let z : suc n - 1 ≡ n = omega arith in
-      let d : pass_batch (drop here img) ≡ got h (drop q img) = (rw e at r).same in
-      rw (z, d)
+  sum-on r zero l = absurd (omega arith)
+  sum-on r (suc n) l = let z : suc n - 1 ≡ n = omega arith in rw (z, r.same)
 
-  sum-stop : (n : ℕ) {y : Fault} → next ≡ Stop y → sum_from f n (drop here img) ≡ 0
+  sum-stop : {y : Fault} → Reads img pass_batch here (Err y) → (n : ℕ) → sum_from f n (drop here img) ≡ 0
   unfolding sum_from
-  sum-stop zero e = refl
-  sum-stop (suc n) {y} e = let d : pass_batch (drop here img) ≡ fault y = (rw e at r).same in rw d
+  sum-stop r zero = refl
+  sum-stop r (suc n) = rw (r.same)
 
 sum-none : (f : HeadParts → ℕ) (n : ℕ) (s : List ℕ) → n ≤ 0 → sum_from f n s ≡ 0
 unfolding sum_from
@@ -60,28 +59,39 @@ module _ {img : List ℕ} {first n here left b o : ℕ} (w : Totalling img first
     operations = omega (arith, w.operations, sum-none head_operations left (drop here img) h);
   }
 
-  module _ {h : HeadParts} (next : Cursor) (r : Reads img pass_batch (At here) h next) where
-    pub totalling-stop : {y : Fault} → next ≡ Stop y → Totalled img first n (record { first = first; count = n; bytes = b; operations = o })
-    totalling-stop e = record {
-      from = refl;
-      counts = refl;
-      bytes = omega (arith, w.bytes, sum-stop head_bytes next r left e);
-      operations = omega (arith, w.operations, sum-stop head_operations next r left e);
-    }
+  module _ {u : Result (BatchHead × ℕ) Fault} (r : Reads img pass_batch here (meant head_meant u)) where
+    pub totalling-stop : {y : Fault} → u ≡ Err y → Totalled img first n (record { first = first; count = n; bytes = b; operations = o })
+    totalling-stop e =
+        let g = rw e at r in
+        record {
+          from = refl;
+          counts = refl;
+          bytes = omega (arith, w.bytes, sum-stop head_bytes g left);
+          operations = omega (arith, w.operations, sum-stop head_operations g left);
+        }
 
-    pub totalling-on : {q : ℕ} → 0 < left → next ≡ At q → head_bytes h ≤ 4294967295 → head_operations h ≤ 4294967295
-        → Totalling img first n q (left - 1) (b + head_bytes h) (o + head_operations h)
-    totalling-on l e i j = record {
-      bytes = omega (arith, w.bytes, sum-on head_bytes next r left l e);
-      operations = omega (arith, w.operations, sum-on head_operations next r left l e);
-      few_bytes = omega (arith, w.few_bytes);
-      few_operations = omega (arith, w.few_operations);
-    }
+    pub totalling-on : {h : BatchHead} {q : ℕ} → 0 < left → u ≡ Ok (h, q) → h.bytes ≤ 4294967295 → h.operations ≤ 4294967295
+        → Totalling img first n q (left - 1) (b + h.bytes) (o + h.operations)
+    totalling-on l e i j =
+        let g = rw e at r in
+        record {
+          bytes = omega (arith, w.bytes, sum-on head_bytes g left l);
+          operations = omega (arith, w.operations, sum-on head_operations g left l);
+          few_bytes = omega (arith, w.few_bytes);
+          few_operations = omega (arith, w.few_operations);
+        }
 
 -- the count, and the batches after it
-pub queue-read : {img : List ℕ} {at n : ℕ} {first : Cursor} {r : Queue} → Answers img (number_read 16) (At at) 0 n first → Totalled img (place_at first) n r
-    → QueueAt img at r
-queue-read {first = first} a t = record { first = first; count = rw t.counts a; totals = record { from = t.from; counts = refl; bytes = rw t.counts t.bytes; operations = rw t.counts t.operations } }
+module _ {img : List ℕ} {at : ℕ} {o : Result (ℕ × ℕ) Fault} {x : ℕ × ℕ} (a : Reads img (number_read 16) at o) (e : x ≡ result_unwrap_or o (0, 0)) where
+  pub few-read : x.0 ≤ 16
+  few-read = rw e (few o a)
+    where
+      few : (o : Result (ℕ × ℕ) Fault) → Reads img (number_read 16) at o → (result_unwrap_or o (0, 0)).0 ≤ 16
+      few (Ok y) a = number-most a refl
+      few (Err f) a = omega arith
+
+  pub queue-read : {r : Queue} → Totalled img x.1 x.0 r → QueueAt img at r
+  queue-read t = record { count = o; reads = a; totals = rw e at t }
 
 -- ---- of batches that were written
 

@@ -1,13 +1,13 @@
 -- The batches of a queue in all, and what freeze makes of the staged counts.
-use Rattle.std.specs.Prelude.{◌≡◌, Bool, ◌||◌, List, ℕ, zero, suc, ◌+◌, leb, drop}
+use Rattle.std.specs.Prelude.{◌≡◌, Bool, ◌||◌, List, ℕ, zero, suc, ◌+◌, leb, drop, Result}
+use Rattle.std.specs.Result.{result_unwrap_or}
 use Rattle.wire.specs.declared.time.Time.{Time}
 use Rattle.wire.specs.Parse.{Parsed, fault, got}
 use Rattle.writers.specs.Tails.{TailParts}
 use Rattle.rules.specs.Queue.{reason_of}
-use Rattle.wire.specs.declared.cursor.Cursor.{Cursor}
-use Rattle.wire.specs.declared.cursor.Cursor.TheVariants as C
+use Rattle.wire.specs.declared.fault.Fault.{Fault}
 use Rattle.wire.specs.Number.{number_read}
-use Rattle.wire.specs.Reading.{Answers, place_at}
+use Rattle.wire.specs.Reading.{Reads}
 use Rattle.change.specs.Batches.{HeadParts, pass_batch}
 use Rattle.waiting.specs.declared.batch.Queue.{Queue}
 
@@ -35,9 +35,9 @@ pub record Totalled (img : List ℕ) (first n : ℕ) (r : Queue) : Type 0 where
 
 -- the count of batches, and the batches after it
 pub record QueueAt (img : List ℕ) (at : ℕ) (r : Queue) : Type 0 where
-  pub first : Cursor
-  pub count : Answers img (number_read 16) (C.At at) 0 r.count first
-  pub totals : Totalled img (place_at first) r.count r
+  pub count : Result (ℕ × ℕ) Fault
+  pub reads : Reads img (number_read 16) at count
+  pub totals : Totalled img (result_unwrap_or count (0, 0)).1 (result_unwrap_or count (0, 0)).0 r
 
 -- "6 if batches, their bytes or their operations in all have each reached or passed its own given limit in at least one of the three, or
 -- there are 16 batches"

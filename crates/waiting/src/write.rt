@@ -4,9 +4,10 @@ ghost use Rattle.wire.specs.Put.{Put};
 ghost use Rattle.change.specs.Changed.{Changes, if_fits};
 ghost use Rattle.waiting.specs.NewQueues.{restaged, requeued, refrozen, new_queue};
 
-use change::answer::{ChangeAnswer, lacks_room};
+use change::answer::lacks_room;
 use change::copy::put_between;
 use change::section::Sections;
+use survey::refusal::Refusal;
 use wire::number::put_number;
 use writers::batch::{BatchHead, put_batch_head};
 use writers::tail::{Tail, put_tail};
@@ -39,16 +40,21 @@ pub struct Frozen {
 }
 
 // Measures the new image, and writes it to the target if there is room.
-pub fn write_queue(img: &[u8], sections: Sections, new: NewQueue, target: &mut [u8]) -> ChangeAnswer
+pub fn write_queue(
+    img: &[u8],
+    sections: Sections,
+    new: NewQueue,
+    target: &mut [u8],
+) -> Result<usize, Refusal>
     ensures { Changes (if_fits (new_queue img.now sections new) (length target.old)) target.old result target.new }
 {
     let mut none = [0u8; 0];
     let size = put_new_queue(&mut none, 0, img, sections, new);
     if lacks_room(size, target.len()) {
-        return ChangeAnswer::Refused(5);
+        return Err(Refusal::NoRoom);
     }
     let end = put_new_queue(target, 0, img, sections, new);
-    ChangeAnswer::Length(end)
+    Ok(end)
 }
 
 // The new image.

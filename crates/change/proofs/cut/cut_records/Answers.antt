@@ -5,4 +5,4 @@ use Rattle.image.specs.RecordLayout.{layer_record}
 use Rattle.change.proofs.cut.cut_records.Goals as goal
 
 pub returns : goal.returns
-returns c = cut_list_lem by_number inode layer_record _ c.read_number-count.ensures (rw c.place_at.ensures at c.cut_rows.ensures)
+returns c = cut_list_lem by_number inode layer_record c.read_number.ensures c.unwrap_or-count.ensures c.cut_rows.ensures

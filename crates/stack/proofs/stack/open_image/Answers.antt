@@ -1,5 +1,9 @@
-use Rattle.stack.proofs.Opening.{image-opened}
+use Rattle.wire.proofs.Readers.{handed}
+use Rattle.stack.proofs.Opening.{opens-stop, opens-stack}
 use Rattle.stack.proofs.stack.open_image.Goals as goal
 
+pub returns-in_err-survey : goal.returns-in_err-survey
+returns-in_err-survey c = opens-stop c.read_image.ensures c.in_err-survey.was (handed c.from_residual.ensures)
+
 pub returns : goal.returns
-returns c = image-opened c.read_image-read.ensures c.refusal_number.ensures
+returns c = opens-stack c.read_image.ensures c.in_ok-survey.was

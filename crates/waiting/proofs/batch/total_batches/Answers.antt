@@ -7,7 +7,7 @@ pub loop-init : goal.loop-init
 loop-init c = rw sub-zero (totalling-start)
 
 pub returns-in_default : goal.returns-in_default
-returns-in_default c = totalling-stop c.loop.invariant _ c.pass_batch-batch.ensures c.in_default.is
+returns-in_default c = totalling-stop c.loop.invariant c.pass_batch.ensures c.in_default.is
 
 pub overflow_add-bytes : goal.overflow_add-bytes
 overflow_add-bytes c = omega (arith, c.loop.invariant.few_bytes)
@@ -16,7 +16,7 @@ pub overflow_add-operations : goal.overflow_add-operations
 overflow_add-operations c = omega (arith, c.loop.invariant.few_operations)
 
 pub loop-preserved : goal.loop-preserved
-loop-preserved c = rw sub-add-eq (totalling-on c.loop.invariant _ c.pass_batch-batch.ensures (omega arith) c.in-At.is (omega arith) (omega arith))
+loop-preserved c = rw sub-add-eq (totalling-on c.loop.invariant c.pass_batch.ensures (omega arith) c.in-Ok.is (omega arith) (omega arith))
 
-pub returns : goal.returns
-returns c = totalling-all c.loop.invariant (omega arith)
+pub returns-after-loop : goal.returns-after-loop
+returns-after-loop c = totalling-all c.loop.invariant (omega arith)
