@@ -13,22 +13,15 @@ ghost use Rattle.stack.specs.Stacks.{Stacked};
 use input::fill;
 use label::{Labels, label_layers};
 use lookup::child::lookup_child;
-use show::{
-    say, write_answer, write_base, write_label, write_question, write_record, write_refusal,
-};
+use show::{write_answer, write_base, write_label, write_question, write_record, write_refusal};
 use stack::name::open_named;
 use std::env::FillError;
 use std::io;
 use std::rt::Env;
 use survey::batch::InodeLayerStack;
+use survey::refusal::Refusal;
 use trace::said::deciding;
 use wire::part::part;
-
-#[derive(Clone, Copy)]
-enum Decimal {
-    Number(u64),
-    NoNumber,
-}
 
 fn main(rt: HostRuntime) -> io::Result<()> {
     if !has_argument(&rt, 2) || has_argument(&rt, 3) {
@@ -38,8 +31,8 @@ fn main(rt: HostRuntime) -> io::Result<()> {
     let length = rt.arg(1, &mut digits).unwrap_or(0);
     let number = read_decimal(&digits[..length]);
     match number {
-        Decimal::Number(inode) => explain_name(&rt, inode),
-        Decimal::NoNumber => complain(&rt, "INODE must be a decimal number below 2^64"),
+        Some(inode) => explain_name(&rt, inode),
+        None => complain(&rt, "INODE must be a decimal number below 2^64"),
     }
 }
 
@@ -61,35 +54,18 @@ fn complain(rt: &impl Eprint, what: &str) -> io::Result<()> {
 }
 
 // The number that the digits make, if there are only digits, at least one, and 64 bits hold it.
-fn read_decimal(text: &[u8]) -> Decimal {
-    if text.len() == 0 {
-        return Decimal::NoNumber;
+fn read_decimal(text: &[u8]) -> Option<u64> {
+    if text.is_empty() {
+        return None;
     }
     let mut sum: u64 = 0;
     for byte in text {
-        let digit = digit_of(*byte);
-        if 9 < digit {
-            return Decimal::NoNumber;
+        if !byte.is_ascii_digit() {
+            return None;
         }
-        if (0xFFFF_FFFF_FFFF_FFFF - digit) / 10 < sum {
-            return Decimal::NoNumber;
-        }
-        sum = sum * 10 + digit;
+        sum = sum.checked_mul(10)?.checked_add((*byte - b'0') as u64)?;
     }
-    Decimal::Number(sum)
-}
-
-// What a digit is worth; of another byte, 10.
-fn digit_of(byte: u8) -> u64
-    ensures { result ≤ 10 }
-{
-    if byte < b'0' {
-        return 10;
-    }
-    if b'9' < byte {
-        return 10;
-    }
-    (byte - b'0') as u64
+    Some(sum)
 }
 
 // Of a name that is longer than 4,096 bytes the start is enough to refuse it.
@@ -110,18 +86,24 @@ fn explain_image(rt: &HostRuntime, ino: u64, name: &[u8]) -> io::Result<()> {
 }
 
 fn explain(rt: &impl Print, img: &[u8], ino: u64, name: &[u8]) -> io::Result<()> {
-    let opened = open_named(img, ino, name);
-    if opened.refusal != 0 {
-        return write_refusal(rt, opened.refusal);
-    }
-    let stack = opened.stack;
+    let (stack, labels) = match read_layers(img, ino, name) {
+        Ok(layers) => layers,
+        Err(refusal) => return write_refusal(rt, refusal),
+    };
     write_question(rt, ino, name)?;
-    let labels = label_layers(img, ino);
     let decides = deciding(img, stack, name);
     write_layers(rt, img, stack, name, labels, decides)?;
     write_base(rt, img, stack, name, decides == 0)?;
-    let answer = lookup_child(img, ino, name);
-    write_answer(rt, answer)
+    write_answer(rt, lookup_child(img, ino, name))
+}
+
+// The inode's stack, and the layers by their names.
+fn read_layers(img: &[u8], ino: u64, name: &[u8]) -> Result<(InodeLayerStack, Labels), Refusal>
+    ensures { IfOk result (λ r. Stacked img.now r.0 × (r.1.batches ≤ 16)) }
+{
+    let stack = open_named(img, ino, name)?;
+    let labels = label_layers(img, ino)?;
+    Ok((stack, labels))
 }
 
 // A line for each layer, live first.
@@ -138,7 +120,8 @@ fn write_layers(
     let mut left = stack.count;
     for layer in (0..=labels.batches).rev() {
         write_label(rt, labels, layer)?;
-        left = write_layer(rt, img, stack, name, labels.places[layer], left, decides)?;
+        let place = labels.layers[layer].place;
+        left = write_layer(rt, img, stack, name, place, left, decides)?;
     }
     Ok(())
 }
@@ -149,22 +132,18 @@ fn write_layer(
     img: &[u8],
     stack: InodeLayerStack,
     name: &[u8],
-    place: usize,
+    place: Option<usize>,
     left: usize,
     decides: usize,
 ) -> io::Result<usize>
     requires { Stacked img.now stack × (left ≤ stack.count) }
     ensures { IfOk result (λ rest. rest ≤ left) }
 {
-    if left == 0 {
-        say(rt, b"no record\n")?;
+    if left == 0 || Some(stack.deltas[left - 1]) != place {
+        println!(rt; "no record")?;
         return Ok(left);
     }
     let i = left - 1;
-    if stack.deltas[i] != place {
-        say(rt, b"no record\n")?;
-        return Ok(left);
-    }
     write_record(rt, img, stack, i, name, decides == left)?;
     Ok(i)
 }

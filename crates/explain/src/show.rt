@@ -4,49 +4,35 @@ ghost use Rattle.stack.specs.Stacks.{Stacked};
 
 use crate::label::Labels;
 use attrs::node::FileType;
-use layers::answer::InodeAnswer;
 use stack::file_type::{base_type, entry_type};
 use stack::stack::{base_node, record_at};
 use std::io;
 use survey::batch::InodeLayerStack;
+use survey::refusal::Refusal;
 use trace::said::{Said, base_says, says_at};
-
-pub fn say(rt: &impl Print, text: &[u8]) -> io::Result<()> {
-    rt.write_all(text)
-}
-
-fn say_number(rt: &impl Print, before: &[u8], number: u64) -> io::Result<()> {
-    say(rt, before)?;
-    rt.print(number)
-}
 
 fn end_line(rt: &impl Print, decides: bool) -> io::Result<()> {
     if decides {
-        say(rt, b" (decides)")?;
+        print!(rt; " (decides)")?;
     }
-    say(rt, b"\n")
+    println!(rt; "")
 }
 
-pub fn write_refusal(rt: &impl Print, number: u32) -> io::Result<()> {
-    say_number(rt, b"refused ", number as u64)?;
-    say(rt, b"\n")
+pub fn write_refusal(rt: &impl Print, refusal: Refusal) -> io::Result<()> {
+    println!(rt; "refused {}", refusal.number())
 }
 
 pub fn write_question(rt: &impl Print, ino: u64, name: &[u8]) -> io::Result<()> {
-    say_number(rt, b"inode ", ino)?;
-    say(rt, b", name ")?;
-    say(rt, name)?;
-    say(rt, b"\n")
+    print!(rt; "inode {ino}, name ")?;
+    rt.write_all(name)?;
+    println!(rt; "")
 }
 
-pub fn write_answer(rt: &impl Print, answer: InodeAnswer) -> io::Result<()> {
+pub fn write_answer(rt: &impl Print, answer: Result<Option<u64>, Refusal>) -> io::Result<()> {
     match answer {
-        InodeAnswer::Refused(number) => write_refusal(rt, number),
-        InodeAnswer::None => say(rt, b"answer: none\n"),
-        InodeAnswer::Inode(inode) => {
-            say_number(rt, b"answer: ", inode)?;
-            say(rt, b"\n")
-        }
+        Ok(Some(inode)) => println!(rt; "answer: {inode}"),
+        Ok(None) => println!(rt; "answer: none"),
+        Err(refusal) => write_refusal(rt, refusal),
     }
 }
 
@@ -54,29 +40,28 @@ pub fn write_label(rt: &impl Print, labels: Labels, layer: usize) -> io::Result<
     requires { layer < 17 }
 {
     if layer == labels.batches {
-        return say(rt, b"live: ");
+        return print!(rt; "live: ");
     }
-    say_number(rt, b"batch ", labels.ids[layer])?;
-    say(rt, b": ")
+    print!(rt; "batch {}: ", labels.layers[layer].id)
 }
 
-fn write_type(rt: &impl Print, file_type: FileType) -> io::Result<()> {
+fn type_name(file_type: FileType) -> &'static str {
     match file_type {
-        FileType::Directory => say(rt, b"directory"),
-        FileType::RegularFile => say(rt, b"file"),
-        FileType::Symlink => say(rt, b"symlink"),
-        FileType::NamedPipe => say(rt, b"pipe"),
-        FileType::CharDevice => say(rt, b"character device"),
-        FileType::BlockDevice => say(rt, b"block device"),
-        FileType::Socket => say(rt, b"socket"),
+        FileType::Directory => "directory",
+        FileType::RegularFile => "file",
+        FileType::Symlink => "symlink",
+        FileType::NamedPipe => "pipe",
+        FileType::CharDevice => "character device",
+        FileType::BlockDevice => "block device",
+        FileType::Socket => "socket",
     }
 }
 
 // A directory delta that says that there is no such child removes it; other deltas have no entries.
-fn write_no_child(rt: &impl Print, file_type: FileType) -> io::Result<()> {
+fn no_child(file_type: FileType) -> &'static str {
     match file_type {
-        FileType::Directory => say(rt, b" delta, removes it"),
-        _ => say(rt, b" delta, has no entries"),
+        FileType::Directory => "removes it",
+        _ => "has no entries",
     }
 }
 
@@ -95,17 +80,17 @@ pub fn write_record(
     let said = says_at(img, stack, i, name);
     match shown {
         Some(file_type) => write_delta(rt, file_type, said)?,
-        None => say(rt, b"tombstone")?,
+        None => print!(rt; "tombstone")?,
     }
     end_line(rt, decides)
 }
 
 fn write_delta(rt: &impl Print, file_type: FileType, said: Said) -> io::Result<()> {
-    write_type(rt, file_type)?;
+    let kind = type_name(file_type);
     match said {
-        Said::Nothing => say(rt, b" delta, does not name it"),
-        Said::NoChild => write_no_child(rt, file_type),
-        Said::Child(inode) => say_number(rt, b" delta, adds it as ", inode),
+        Said::Nothing => print!(rt; "{kind} delta, does not name it"),
+        Said::NoChild => print!(rt; "{kind} delta, {}", no_child(file_type)),
+        Said::Child(inode) => print!(rt; "{kind} delta, adds it as {inode}"),
     }
 }
 
@@ -119,21 +104,21 @@ pub fn write_base(
 ) -> io::Result<()>
     requires { Stacked img.now stack }
 {
-    say(rt, b"base: ")?;
+    print!(rt; "base: ")?;
     let shown = base_type(base_node(img, stack));
     let said = base_says(img, stack, name);
     match shown {
         Some(file_type) => write_node(rt, file_type, said)?,
-        None => say(rt, b"no node")?,
+        None => print!(rt; "no node")?,
     }
     end_line(rt, decides)
 }
 
 fn write_node(rt: &impl Print, file_type: FileType, said: Said) -> io::Result<()> {
-    write_type(rt, file_type)?;
+    let kind = type_name(file_type);
     match said {
-        Said::Nothing => say(rt, b", does not have it"),
-        Said::NoChild => say(rt, b", has no entries"),
-        Said::Child(inode) => say_number(rt, b", has it as ", inode),
+        Said::Nothing => print!(rt; "{kind}, does not have it"),
+        Said::NoChild => print!(rt; "{kind}, has no entries"),
+        Said::Child(inode) => print!(rt; "{kind}, has it as {inode}"),
     }
 }

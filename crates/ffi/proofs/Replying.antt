@@ -1,6 +1,6 @@
 -- What a reply says, by the answer that it was made of.
 -- Assumes nothing.
-use Rattle.std.specs.Prelude.{None, Option, Some}
+use Rattle.std.specs.Prelude.{None, Option, Some, Result}
 use mathlib.Core.Path.{◌≡◌, refl, sym, ap, ◌∙◌}
 use mathlib.Core.Bool.{true}
 use mathlib.Core.List.{List, [], ◌∷◌}
@@ -16,14 +16,15 @@ use Rattle.wire.specs.Reading.{part}
 use Rattle.image.specs.Meaning.{Text}
 use Rattle.rules.specs.Answers.{Answer, refused, answer}
 use Rattle.change.specs.Changed.{Changes, answered}
-use Rattle.change.specs.declared.answer.ChangeAnswer.{ChangeAnswer}
+use Rattle.survey.specs.Verdict.{numbered}
+use Rattle.survey.specs.declared.refusal.Refusal.{Refusal}
 use Rattle.ffi.specs.declared.reply.ChangeReply.{ChangeReply}
 use Rattle.ffi.specs.declared.reply.TextReply.{TextReply}
 use Rattle.ffi.specs.Replies.{ChangeReplies, reply_of, change_reply, TextReplies, no_text, time_given}
 
 -- ---- changes
 
-pub change-replied : {def : Answer (List ℕ)} {old new : List ℕ} {a : ChangeAnswer} {r : ChangeReply} → Changes def old a new → r ≡ reply_of a → ChangeReplies def old r new
+pub change-replied : {def : Answer (List ℕ)} {old new : List ℕ} {a : Result ℕ Refusal} {r : ChangeReply} → Changes def old a new → r ≡ reply_of (numbered a) → ChangeReplies def old r new
 change-replied {def} w e = record { replies = e ∙ ap reply_of w.answers ∙ same def; leaves = w.leaves }
   where
     same : (d : Answer (List ℕ)) → reply_of (answered d) ≡ change_reply d

@@ -1,7 +1,9 @@
 -- What each reply says of the answer that a call's definition gives. Document 01: "A refusal gives its number, length 0 and, for a text, the
 -- empty part; target and rows stay." "'None' is an answer." A reply's `refusal` is 0 where there is none.
-use Rattle.std.specs.Prelude.{◌≡◌, Bool, true, false, cond, List, ℕ, ◌+◌, ◌≤◌, ℤ, pos, ltb, length, None, Option, Some}
+use Rattle.std.specs.Prelude.{◌≡◌, Bool, true, false, List, ℕ, ◌+◌, ◌≤◌, min, ℤ, pos, length, None, Option, Some, Result, Ok, Err}
 use Rattle.wire.specs.Reading.{part}
+use Rattle.survey.specs.Verdict.{number_of}
+use Rattle.survey.specs.declared.refusal.Refusal.{Refusal}
 use Rattle.wire.specs.declared.time.Time.{Time}
 use Rattle.image.specs.Meaning.{Text, Kind, kind_number}
 use Rattle.rules.specs.Answers.{Answer, refused, answer}
@@ -9,12 +11,8 @@ use Rattle.rules.specs.FileAttrs.{FileAttr}
 use Rattle.rules.specs.Reads.{is_there}
 use Rattle.rules.specs.ReadCalls.{Row, text_of, filled}
 use Rattle.rules.specs.ChangeCalls.{written, length_of}
-use Rattle.layers.specs.declared.answer.RowsAnswer.{RowsAnswer}
-use Rattle.layers.specs.declared.answer.RowsAnswer.TheVariants as Rows
 use Rattle.rows.specs.declared.listing.Entry.{Entry}
 use Rattle.rows.specs.Plans.{in_entries}
-use Rattle.change.specs.declared.answer.ChangeAnswer.{ChangeAnswer}
-use Rattle.change.specs.declared.answer.ChangeAnswer.TheVariants as A
 use Rattle.ffi.specs.declared.reply.YesNoReply.{YesNoReply}
 use Rattle.ffi.specs.declared.reply.TypeReply.{TypeReply}
 use Rattle.ffi.specs.declared.reply.InodeReply.{InodeReply}
@@ -108,11 +106,11 @@ pub record TextReplies (img : List ℕ) (def : Answer (Option Text)) (r : TextRe
 
 -- ---- rows
 
--- what the enum's cases say, with so many rows lent
-abbrev pub count_reply : RowsAnswer → ℕ → RowsReply
-count_reply (Rows.Refused n) lent = record { refusal = n; found = false; count = 0 }
-count_reply Rows.None lent = record { refusal = 0; found = false; count = 0 }
-count_reply (Rows.Rows n) lent = record { refusal = 0; found = true; count = cond (ltb lent n) lent n }
+-- what an answer says, with so many rows lent
+abbrev pub count_reply : Result (Option ℕ) Refusal → ℕ → RowsReply
+count_reply (Err r) lent = record { refusal = number_of r; found = false; count = 0 }
+count_reply (Ok None) lent = record { refusal = 0; found = false; count = 0 }
+count_reply (Ok (Some n)) lent = record { refusal = 0; found = true; count = min n lent }
 
 -- "A listing fills a lent row of entries": how many
 abbrev pub rows_reply : Answer (Option (List Row)) → RowsReply
@@ -131,10 +129,10 @@ pub record RowsReplies (def : Answer (Option (List Row))) (old new : List Entry)
 abbrev pub time_given : ℤ → ℕ → Time
 time_given seconds nanos = record { seconds = seconds; nanos = nanos }
 
--- what the enum's cases say
-abbrev pub reply_of : ChangeAnswer → ChangeReply
-reply_of (A.Refused n) = record { refusal = n; «length» = 0 }
-reply_of (A.Length n) = record { refusal = 0; «length» = n }
+-- what an answer says, its refusal as a number
+abbrev pub reply_of : Result ℕ ℕ → ChangeReply
+reply_of (Err n) = record { refusal = n; «length» = 0 }
+reply_of (Ok n) = record { refusal = 0; «length» = n }
 
 -- "A refusal gives its number, length 0"
 abbrev pub change_reply : Answer (List ℕ) → ChangeReply

@@ -4,8 +4,8 @@ ghost use Rattle.rules.specs.Initial.{usual};
 ghost use Rattle.rules.specs.ReadCalls.{list_directory, list_xattrs};
 ghost use Rattle.ffi.specs.Replies.{count_reply, RowsReplies};
 
-use layers::answer::RowsAnswer;
 use rows::listing::{Entry, list_directory, list_xattrs};
+use survey::refusal::Refusal;
 
 // `count` is that of the rows filled.
 #[repr(C)]
@@ -17,24 +17,24 @@ pub struct RowsReply {
 }
 
 // No more rows are filled than were lent.
-fn rows_reply(answer: RowsAnswer, lent: usize) -> RowsReply
+fn rows_reply(answer: Result<Option<usize>, Refusal>, lent: usize) -> RowsReply
     ensures { result ≡ count_reply answer lent }
 {
     match answer {
-        RowsAnswer::Refused(refusal) => RowsReply {
-            refusal,
-            found: false,
-            count: 0,
-        },
-        RowsAnswer::None => RowsReply {
-            refusal: 0,
-            found: false,
-            count: 0,
-        },
-        RowsAnswer::Rows(count) => RowsReply {
+        Ok(Some(count)) => RowsReply {
             refusal: 0,
             found: true,
-            count: if lent < count { lent } else { count },
+            count: count.min(lent),
+        },
+        Ok(None) => RowsReply {
+            refusal: 0,
+            found: false,
+            count: 0,
+        },
+        Err(refusal) => RowsReply {
+            refusal: refusal.number(),
+            found: false,
+            count: 0,
         },
     }
 }

@@ -1,16 +1,15 @@
 // What the exported calls answer. In each, `refusal` is the number of the refusal, 0 for none.
-ghost use Rattle.std.specs.Prelude.{◌≡◌};
-ghost use Rattle.image.specs.Meaning.{kind_number};
+ghost use Rattle.std.specs.Prelude.{◌≡◌, option_map};
 ghost use Rattle.rules.specs.Answers.{answer};
 ghost use Rattle.nodes.specs.Options.{text_of as textMeant};
 ghost use Rattle.attrs.specs.Meant.{kind_meant, attr_meant};
-ghost use Rattle.layers.specs.Answered.{yes_no, type_answered, inode_answered, attr_answered};
+ghost use Rattle.survey.specs.Verdict.{numbered};
+ghost use Rattle.layers.specs.Answered.{answered};
 ghost use Rattle.ffi.specs.Replies.{yes_no_reply, type_reply, inode_reply, time_out, attr_out, no_attr, attr_reply, no_text, TextReplies, time_given, reply_of};
 
 use wire::text::Part;
 use attrs::node::{FileAttr, FileType};
-use change::answer::ChangeAnswer;
-use layers::answer::{AttrAnswer, InodeAnswer, TypeAnswer, YesNo};
+use survey::refusal::Refusal;
 use wire::part::part;
 use wire::time::Time;
 
@@ -87,80 +86,58 @@ pub struct ChangeReply {
     pub length: usize,
 }
 
-pub fn yes_no_reply(answer: YesNo) -> YesNoReply
-    ensures { result ≡ yes_no_reply (yes_no answer) }
+pub fn yes_no_reply(answer: Result<bool, Refusal>) -> YesNoReply
+    ensures { result ≡ yes_no_reply (answered (λ yes. yes) answer) }
 {
     match answer {
-        YesNo::Refused(refusal) => YesNoReply {
-            refusal,
+        Ok(yes) => YesNoReply { refusal: 0, yes },
+        Err(refusal) => YesNoReply {
+            refusal: refusal.number(),
             yes: false,
-        },
-        YesNo::No => YesNoReply {
-            refusal: 0,
-            yes: false,
-        },
-        YesNo::Yes => YesNoReply {
-            refusal: 0,
-            yes: true,
         },
     }
 }
 
-// "kind 0 to 6", in the order of document 01.
-fn kind_number(kind: FileType) -> u32
-    ensures { result ≡ kind_number (kind_meant kind) }
-{
-    match kind {
-        FileType::Directory => 0,
-        FileType::RegularFile => 1,
-        FileType::Symlink => 2,
-        FileType::NamedPipe => 3,
-        FileType::CharDevice => 4,
-        FileType::BlockDevice => 5,
-        FileType::Socket => 6,
-    }
-}
-
-pub fn type_reply(answer: TypeAnswer) -> TypeReply
-    ensures { result ≡ type_reply (type_answered answer) }
+pub fn type_reply(answer: Result<Option<FileType>, Refusal>) -> TypeReply
+    ensures { result ≡ type_reply (answered (option_map kind_meant) answer) }
 {
     match answer {
-        TypeAnswer::Refused(refusal) => TypeReply {
-            refusal,
-            found: false,
-            kind: 0,
-        },
-        TypeAnswer::None => TypeReply {
-            refusal: 0,
-            found: false,
-            kind: 0,
-        },
-        TypeAnswer::Type(kind) => TypeReply {
+        Ok(Some(kind)) => TypeReply {
             refusal: 0,
             found: true,
-            kind: kind_number(kind),
+            kind: kind as u32,
+        },
+        Ok(None) => TypeReply {
+            refusal: 0,
+            found: false,
+            kind: 0,
+        },
+        Err(refusal) => TypeReply {
+            refusal: refusal.number(),
+            found: false,
+            kind: 0,
         },
     }
 }
 
-pub fn inode_reply(answer: InodeAnswer) -> InodeReply
-    ensures { result ≡ inode_reply (inode_answered answer) }
+pub fn inode_reply(answer: Result<Option<u64>, Refusal>) -> InodeReply
+    ensures { result ≡ inode_reply (answered (λ inode. inode) answer) }
 {
     match answer {
-        InodeAnswer::Refused(refusal) => InodeReply {
-            refusal,
-            found: false,
-            inode: 0,
-        },
-        InodeAnswer::None => InodeReply {
-            refusal: 0,
-            found: false,
-            inode: 0,
-        },
-        InodeAnswer::Inode(inode) => InodeReply {
+        Ok(Some(inode)) => InodeReply {
             refusal: 0,
             found: true,
             inode,
+        },
+        Ok(None) => InodeReply {
+            refusal: 0,
+            found: false,
+            inode: 0,
+        },
+        Err(refusal) => InodeReply {
+            refusal: refusal.number(),
+            found: false,
+            inode: 0,
         },
     }
 }
@@ -177,22 +154,18 @@ fn time_out(time: Time) -> Timestamp
 fn attr_out(attr: FileAttr) -> Attr
     ensures { result ≡ attr_out (attr_meant attr) }
 {
-    let kind = attr.file_type;
-    let atime = attr.atime;
-    let mtime = attr.mtime;
-    let ctime = attr.ctime;
     Attr {
         ino: attr.ino,
-        kind: kind_number(kind),
+        kind: attr.file_type as u32,
         perm: attr.perm,
         nlink: attr.nlink,
         uid: attr.uid,
         gid: attr.gid,
         rdev: attr.rdev,
         size: attr.size,
-        atime: time_out(atime),
-        mtime: time_out(mtime),
-        ctime: time_out(ctime),
+        atime: time_out(attr.atime),
+        mtime: time_out(attr.mtime),
+        ctime: time_out(attr.ctime),
     }
 }
 
@@ -224,17 +197,17 @@ fn no_attr(refusal: u32) -> AttrReply
     }
 }
 
-pub fn attr_reply(answer: AttrAnswer) -> AttrReply
-    ensures { result ≡ attr_reply (attr_answered answer) }
+pub fn attr_reply(answer: Result<Option<FileAttr>, Refusal>) -> AttrReply
+    ensures { result ≡ attr_reply (answered (option_map attr_meant) answer) }
 {
     match answer {
-        AttrAnswer::Refused(refusal) => no_attr(refusal),
-        AttrAnswer::None => no_attr(0),
-        AttrAnswer::Attr(attr) => AttrReply {
+        Ok(Some(attr)) => AttrReply {
             refusal: 0,
             found: true,
             attr: attr_out(attr),
         },
+        Ok(None) => no_attr(0),
+        Err(refusal) => no_attr(refusal.number()),
     }
 }
 
@@ -278,11 +251,18 @@ pub fn time_given(seconds: i64, nanos: u32) -> Time
     Time { seconds, nanos }
 }
 
-pub fn change_reply(answer: ChangeAnswer) -> ChangeReply
-    ensures { result ≡ reply_of answer }
+// The length is 0.
+fn no_image(refusal: u32) -> ChangeReply
+    ensures { result ≡ reply_of (Err refusal) }
+{
+    ChangeReply { refusal, length: 0 }
+}
+
+pub fn change_reply(answer: Result<usize, Refusal>) -> ChangeReply
+    ensures { result ≡ reply_of (numbered answer) }
 {
     match answer {
-        ChangeAnswer::Refused(refusal) => ChangeReply { refusal, length: 0 },
-        ChangeAnswer::Length(length) => ChangeReply { refusal: 0, length },
+        Ok(length) => ChangeReply { refusal: 0, length },
+        Err(refusal) => no_image(refusal.number()),
     }
 }

@@ -14,13 +14,10 @@ use xattrs::xattr::xattr_in;
 pub extern "C" fn appendfs_read_link(img: &[u8], ino: u64) -> TextReply
     ensures { TextReplies img.now (read_link usual img.now ino) result }
 {
-    let opened = open_image(img, ino);
-    let refusal = opened.refusal;
-    if refusal != 0 {
-        return no_text(refusal);
+    match open_image(img, ino) {
+        Ok(stack) => text_reply(img, link_in(img, stack)),
+        Err(refusal) => no_text(refusal.number()),
     }
-    let stack = opened.stack;
-    text_reply(img, link_in(img, stack))
 }
 
 // The value of an extended attribute.
@@ -28,11 +25,8 @@ pub extern "C" fn appendfs_read_link(img: &[u8], ino: u64) -> TextReply
 pub extern "C" fn appendfs_get_xattr(img: &[u8], ino: u64, name: &[u8]) -> TextReply
     ensures { TextReplies img.now (get_xattr usual img.now ino name.now) result }
 {
-    let opened = open_named(img, ino, name);
-    let refusal = opened.refusal;
-    if refusal != 0 {
-        return no_text(refusal);
+    match open_named(img, ino, name) {
+        Ok(stack) => text_reply(img, xattr_in(img, stack, name)),
+        Err(refusal) => no_text(refusal.number()),
     }
-    let stack = opened.stack;
-    text_reply(img, xattr_in(img, stack, name))
 }

@@ -5,32 +5,24 @@ ghost use Rattle.rules.specs.FileAttrs.{attributes, base_attr, step_attr};
 ghost use Rattle.rules.specs.ReadCalls.{attr};
 ghost use Rattle.deltas.specs.Deltas.{entry_meant};
 ghost use Rattle.layers.specs.Attrs.{EntryTargetIn, BaseLinkIn, attr_if};
-ghost use Rattle.layers.specs.Answered.{attr_answered};
+ghost use Rattle.layers.specs.Answered.{answered};
 ghost use Rattle.stack.specs.Stacks.{Stacked, shown, node_meant_if};
 
-use nodes::node::Node;
-use crate::answer::AttrAnswer;
 use attrs::attr::{applied, initial_attr, node_attr};
 use attrs::node::FileAttr;
 use deltas::delta::EntryDelta;
+use nodes::node::Node;
 use stack::stack::{base_node, open_image, record_at};
 use survey::batch::InodeLayerStack;
+use survey::refusal::Refusal;
 
 // The attributes of the inode.
-pub fn attr(img: &[u8], ino: u64) -> AttrAnswer
-    ensures { attr_answered result ≡ attr usual img.now ino }
+pub fn attr(img: &[u8], ino: u64) -> Result<Option<FileAttr>, Refusal>
+    ensures { answered attr_if result ≡ attr usual img.now ino }
 {
-    let opened = open_image(img, ino);
-    let refusal = opened.refusal;
-    if refusal != 0 {
-        return AttrAnswer::Refused(refusal);
-    }
-    let stack = opened.stack;
+    let stack = open_image(img, ino)?;
     let found = shown_attr(img, stack, ino);
-    match found {
-        Some(attr) => AttrAnswer::Attr(attr),
-        None => AttrAnswer::None,
-    }
+    Ok(found)
 }
 
 // What a record makes of the attributes below it.

@@ -4,82 +4,54 @@ ghost use Rattle.rules.specs.Initial.{usual};
 ghost use Rattle.rules.specs.Reads.{link_text, parent};
 ghost use Rattle.rules.specs.ReadCalls.{exists, file_type, read_link, has_link, parent_dir_inode, text_of};
 ghost use Rattle.nodes.specs.Options.{text_of as textMeant};
-ghost use Rattle.stack.specs.Stacks.{Stacked, shown};
-ghost use Rattle.layers.specs.Answered.{yes_no, type_answered, inode_answered};
+ghost use Rattle.stack.specs.Stacks.{Stacked, shown, type_of};
+ghost use Rattle.layers.specs.Answered.{answered};
 
-use wire::text::Part;
-use crate::answer::{InodeAnswer, TypeAnswer, YesNo};
+use attrs::node::FileType;
 use deltas::delta::{EntryDelta, NodeDelta};
 use nodes::node::NodeKind;
 use stack::file_type::type_in;
 use stack::stack::{base_node, open_image, record_at};
 use survey::batch::InodeLayerStack;
+use survey::refusal::Refusal;
 use wire::part::part;
+use wire::text::Part;
 
 // Whether the inode exists.
-pub fn exists(img: &[u8], ino: u64) -> YesNo
-    ensures { yes_no result ≡ exists usual img.now ino }
+pub fn exists(img: &[u8], ino: u64) -> Result<bool, Refusal>
+    ensures { answered (λ yes. yes) result ≡ exists usual img.now ino }
 {
-    let opened = open_image(img, ino);
-    let refusal = opened.refusal;
-    if refusal != 0 {
-        return YesNo::Refused(refusal);
-    }
-    let stack = opened.stack;
+    let stack = open_image(img, ino)?;
     let found = type_in(img, stack);
-    match found {
-        Some(_) => YesNo::Yes,
-        None => YesNo::No,
-    }
+    Ok(found.is_some())
 }
 
 // The type of the inode.
-pub fn file_type(img: &[u8], ino: u64) -> TypeAnswer
-    ensures { type_answered result ≡ file_type usual img.now ino }
+pub fn file_type(img: &[u8], ino: u64) -> Result<Option<FileType>, Refusal>
+    ensures { answered type_of result ≡ file_type usual img.now ino }
 {
-    let opened = open_image(img, ino);
-    let refusal = opened.refusal;
-    if refusal != 0 {
-        return TypeAnswer::Refused(refusal);
-    }
-    let stack = opened.stack;
+    let stack = open_image(img, ino)?;
     let found = type_in(img, stack);
-    match found {
-        Some(kind) => TypeAnswer::Type(kind),
-        None => TypeAnswer::None,
-    }
+    Ok(found)
 }
 
 // The parent of a directory. Inode 1 always has parent 1.
-pub fn parent_dir_inode(img: &[u8], ino: u64) -> InodeAnswer
-    ensures { inode_answered result ≡ parent_dir_inode usual img.now ino }
+pub fn parent_dir_inode(img: &[u8], ino: u64) -> Result<Option<u64>, Refusal>
+    ensures { answered (λ parent. parent) result ≡ parent_dir_inode usual img.now ino }
 {
-    let opened = open_image(img, ino);
-    let refusal = opened.refusal;
-    if refusal != 0 {
-        return InodeAnswer::Refused(refusal);
-    }
+    let stack = open_image(img, ino)?;
     if ino == 1 {
-        return InodeAnswer::Inode(1);
+        return Ok(Some(1));
     }
-    let stack = opened.stack;
     let found = parent_in(img, stack);
-    match found {
-        Some(inode) => InodeAnswer::Inode(inode),
-        None => InodeAnswer::None,
-    }
+    Ok(found)
 }
 
 // The text of a link: that very part of the image, empty if there is none.
 pub fn read_link(img: &[u8], ino: u64) -> &[u8]
     ensures { result.now ≡ text_of (read_link usual img.now ino) }
 {
-    let opened = open_image(img, ino);
-    if opened.refusal != 0 {
-        return part(img, 0, 0);
-    }
-    let stack = opened.stack;
-    let found = link_in(img, stack);
+    let found = link_of(img, ino).unwrap_or(None);
     match found {
         Some(text) => part(img, text.start, text.length),
         None => part(img, 0, 0),
@@ -87,20 +59,20 @@ pub fn read_link(img: &[u8], ino: u64) -> &[u8]
 }
 
 // Whether there is a link's text.
-pub fn has_link(img: &[u8], ino: u64) -> YesNo
-    ensures { yes_no result ≡ has_link usual img.now ino }
+pub fn has_link(img: &[u8], ino: u64) -> Result<bool, Refusal>
+    ensures { answered (λ yes. yes) result ≡ has_link usual img.now ino }
 {
-    let opened = open_image(img, ino);
-    let refusal = opened.refusal;
-    if refusal != 0 {
-        return YesNo::Refused(refusal);
-    }
-    let stack = opened.stack;
+    let found = link_of(img, ino)?;
+    Ok(found.is_some())
+}
+
+// Where the text of a link stands.
+fn link_of(img: &[u8], ino: u64) -> Result<Option<Part>, Refusal>
+    ensures { answered (textMeant img.now) result ≡ read_link usual img.now ino }
+{
+    let stack = open_image(img, ino)?;
     let found = link_in(img, stack);
-    match found {
-        Some(_) => YesNo::Yes,
-        None => YesNo::No,
-    }
+    Ok(found)
 }
 
 // From the top: the first directory delta with a parent; a tombstone or another kind, none; then a base directory's.

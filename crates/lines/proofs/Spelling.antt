@@ -50,7 +50,7 @@ module _ {base n least : ℕ} {text : List ℕ} where
           })
 
   -- no digit is left
-  pub spelled-done : {start rest left : ℕ} → Spelled base n least text start rest left → (eqb rest 0 && eqb left 0) ≡ true → part text start 22 ≡ digits base 22 least n
+  spelled-done : {start rest left : ℕ} → Spelled base n least text start rest left → (eqb rest 0 && eqb left 0) ≡ true → part text start 22 ≡ digits base 22 least n
   unfolding digits
   spelled-done {start} {rest} {left} s t =
       take_all 22 (drop start text) (omega (arith, length-drop start text, s.long)) ∙ sym (s.is ∙ go start)
@@ -58,6 +58,10 @@ module _ {base n least : ℕ} {text : List ℕ} where
       go : (k : ℕ) → digits base k left rest ++ drop start text ≡ drop start text
       go zero = refl
       go (suc k) = rw t
+
+  -- the same, where `start` is the place after the one at hand
+  pub spelled-next : {start rest left : ℕ} → Spelled base n least text start rest left → 0 < start → (eqb rest 0 && eqb left 0) ≡ true → part text (start - 1 + 1) 22 ≡ digits base 22 least n
+  spelled-next {start} s h t = let z : start - 1 + 1 ≡ start = omega arith in rw z (spelled-done s t)
 
   -- or no room
   pub spelled-full : {start rest left : ℕ} → Spelled base n least text start rest left → start ≤ 0 → text ≡ digits base 22 least n

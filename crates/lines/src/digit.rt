@@ -31,15 +31,13 @@ fn put_digits(buf: &mut [u8], at: usize, number: u64, base: u64, least: u64) -> 
     ensures { Put buf.old at (digits base 22 least number) result buf.new }
 {
     let mut text = [0u8; 22];
-    let mut start: usize = 22;
     let mut rest = number;
     let mut left = least;
-    while 0 < start {
+    for i in (0..22).rev() {
         if is_done(rest, left) {
-            return put_part(buf, at, &text, start, 22);
+            return put_part(buf, at, &text, i + 1, 22);
         }
-        start = start - 1;
-        text[start] = (rest % base + 48) as u8;
+        text[i] = (rest % base + 48) as u8;
         rest = rest / base;
         left = less_one(left);
     }

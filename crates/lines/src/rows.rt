@@ -4,10 +4,11 @@ ghost use Rattle.lines.specs.Rows.{FirstRows, OpensListing, NextLine};
 use crate::digit::less_one;
 use crate::line::put_line;
 use attrs::attr::node_attr;
-use change::answer::ChangeAnswer;
 use flush::flush::snapshot_all;
-use nodes::node::read_node;
-use wire::cursor::{Cursor, place_at};
+use nodes::node::{Node, read_node};
+use survey::refusal::Refusal;
+use image::field::LAST_WORD;
+use wire::fault::Fault;
 use wire::number::read_number;
 
 // Where the next inode of a snapshot's base stands, and how many are left.
@@ -15,13 +16,6 @@ use wire::number::read_number;
 pub struct Rows {
     pub at: usize,
     pub left: u64,
-}
-
-// The number of a refusal, or the inodes of the snapshot.
-#[derive(Clone, Copy)]
-pub enum Opened {
-    Refused(u32),
-    Lines(Rows),
 }
 
 // The place after a line, and the inodes left.
@@ -33,45 +27,44 @@ pub struct Line {
 
 // Writes the snapshot of the image to the target, and answers where its inodes stand there. Its scratch is the target, of which 65,536 bytes are
 // enough for any image, and that of a snapshot.
-pub fn open_listing(img: &[u8], target: &mut [u8]) -> Opened
+pub fn open_listing(img: &[u8], target: &mut [u8]) -> Result<Rows, Refusal>
     ensures { OpensListing img.now target.old result target.new }
 {
-    let answer = snapshot_all(img, target);
-    match answer {
-        ChangeAnswer::Refused(number) => Opened::Refused(number),
-        ChangeAnswer::Length(_) => {
-            let rows = first_rows(target);
-            Opened::Lines(rows)
-        }
-    }
+    snapshot_all(img, target)?;
+    Ok(first_rows(target))
 }
 
 // Where the inodes of the base of an image stand.
 fn first_rows(img: &[u8]) -> Rows
     ensures { FirstRows img.now result }
 {
-    let count = read_number(img, Cursor::At(0), 0xFFFF_FFFF);
-    let next = count.next;
-    Rows {
-        at: place_at(next),
-        left: count.value,
-    }
+    let (left, at) = read_number(img, 0, LAST_WORD).unwrap_or((0, 0));
+    Rows { at, left }
 }
 
 // Writes the line of the next inode at the start of `buf`.
 pub fn put_next(buf: &mut [u8], snapshot: &[u8], rows: Rows) -> Line
     ensures { NextLine snapshot.now rows buf.old result buf.new }
 {
-    let inode = read_number(snapshot, Cursor::At(rows.at), 0xFFFF_FFFF_FFFF_FFFF);
-    let start = inode.next;
-    let read = read_node(snapshot, start);
-    let node = read.node;
-    let next = read.next;
-    let attr = node_attr(node, inode.value);
-    let end = put_line(buf, 0, attr);
-    let rest = Rows {
-        at: place_at(next),
-        left: less_one(rows.left),
+    let left = less_one(rows.left);
+    let Ok((inode, node, at)) = read_row(snapshot, rows.at) else {
+        return Line {
+            end: 0,
+            rest: Rows { at: rows.at, left },
+        };
     };
-    Line { end, rest }
+    let end = put_line(buf, 0, node_attr(node, inode));
+    Line {
+        end,
+        rest: Rows { at, left },
+    }
+}
+
+// The inode and the node at a place, and the place after them.
+fn read_row(img: &[u8], at: usize) -> Result<(u64, Node, usize), Fault>
+    ensures { ReadsRow img.now at result }
+{
+    let (inode, start) = read_number(img, at, u64::MAX)?;
+    let (node, next) = read_node(img, start)?;
+    Ok((inode, node, next))
 }

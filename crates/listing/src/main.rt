@@ -7,8 +7,9 @@ ghost use Rattle.lines.specs.Rows.{HasRows};
 
 use input::fill;
 use lines::line::{put_heading, put_refusal};
-use lines::rows::{Opened, Rows, open_listing, put_next};
+use lines::rows::{Rows, open_listing, put_next};
 use std::io;
+use survey::refusal::Refusal;
 use wire::part::part;
 
 fn main(rt: HostRuntime) -> io::Result<()> {
@@ -19,16 +20,15 @@ fn main(rt: HostRuntime) -> io::Result<()> {
 }
 
 fn list(rt: &impl Print, img: &[u8], target: &mut [u8]) -> io::Result<()> {
-    let opened = open_listing(img, target);
-    match opened {
-        Opened::Refused(number) => write_refusal(rt, number),
-        Opened::Lines(rows) => write_lines(rt, target, rows),
+    match open_listing(img, target) {
+        Ok(rows) => write_lines(rt, target, rows),
+        Err(refusal) => write_refusal(rt, refusal),
     }
 }
 
-fn write_refusal(rt: &impl Print, number: u32) -> io::Result<()> {
+fn write_refusal(rt: &impl Print, refusal: Refusal) -> io::Result<()> {
     let mut line = [0u8; 128];
-    let end = put_refusal(&mut line, 0, number);
+    let end = put_refusal(&mut line, 0, refusal.number());
     rt.write_all(part(&line, 0, end))
 }
 
@@ -40,7 +40,7 @@ fn write_lines(rt: &impl Print, snapshot: &[u8], rows: Rows) -> io::Result<()>
     let end = put_heading(&mut line, 0);
     rt.write_all(part(&line, 0, end))?;
     let mut rest = rows;
-    while rest.left != 0 {
+    for _ in 0..rows.left {
         let next = put_next(&mut line, snapshot, rest);
         rt.write_all(part(&line, 0, next.end))?;
         rest = next.rest;

@@ -6,7 +6,6 @@ use Rattle.wire.specs.Order.{Order}
 use Rattle.wire.specs.Orders.{by_bytes}
 use Rattle.wire.specs.Number.{number_bytes, number_read}
 use Rattle.wire.specs.Lists.{last_count}
-use Rattle.wire.specs.Reading.{part}
 use Rattle.wire.specs.Put.{Put}
 use Rattle.image.specs.Meaning.{Text}
 use Rattle.image.specs.Masks.{maybe}
@@ -59,28 +58,28 @@ pub record RowsFrom (bytes : List ℕ) (at : ℕ) (r : Left) : Type 0 where
   pub few : r.count ≤ last_count
   pub are : rows_in bytes r ≡ rows_at bytes at
 
-abbrev pub no_row : Left → Row
-no_row l = record { there = false; start = 0; «length» = 0; rest = l }
-
 -- this row is the first, and its bytes are those up to the rows after it
 pub record Leads (bytes : List ℕ) (l : Left) (r : Row) : Type 0 where
   pub change : Option Text
-  pub is : rows_in bytes l ≡ (part bytes r.start r.length, change) ∷ rows_in bytes r.rest
-  pub spells : between bytes l.first r.rest.first ≡ change_bytes (part bytes r.start r.length, change)
+  pub is : rows_in bytes l ≡ (text_at bytes r.name, change) ∷ rows_in bytes r.rest
+  pub spells : between bytes l.first r.rest.first ≡ change_bytes (text_at bytes r.name, change)
   pub less : suc r.rest.count ≡ l.count
 
 -- the first row, or there is none
-pub record RowIs (bytes : List ℕ) (l : Left) (r : Row) : Type 0 where
-  pub leads : r.there ≡ true → Leads bytes l r
-  pub ended : r.there ≡ false → rows_in bytes l ≡ []
+abbrev pub RowOf : List ℕ → Left → Option Row → Type 0
+RowOf bytes l (Some r) = Leads bytes l r
+RowOf bytes l None = rows_in bytes l ≡ []
+
+pub record RowIs (bytes : List ℕ) (l : Left) (r : Option Row) : Type 0 where
+  pub is : RowOf bytes l r
 
 -- the row given, and then these rows
 abbrev pub own_turn : Left → Row → Left → Turn
-own_turn new upper old = record { more = true; own = true; start = new.first; end = upper.rest.first; new = upper.rest; old = old }
+own_turn new upper old = record { own = true; start = new.first; end = upper.rest.first; new = upper.rest; old = old }
 
--- the row of the image, if there is one, and then what is left
+-- the row of the image, and then what is left
 abbrev pub lower_turn : Left → Left → Row → Turn
-lower_turn new old lower = record { more = lower.there; own = false; start = old.first; end = lower.rest.first; new = new; old = lower.rest }
+lower_turn new old lower = record { own = false; start = old.first; end = lower.rest.first; new = new; old = lower.rest }
 
 module _ (img given : List ℕ) where
   -- the rows of both
@@ -98,9 +97,12 @@ module _ (img given : List ℕ) where
     pub less : r.new.count + r.old.count < new.count + old.count
 
   -- the next row of both, or there is none
-  pub record TurnIs (new old : Left) (r : Turn) : Type 0 where
-    pub goes : r.more ≡ true → Goes new old r
-    pub ended : r.more ≡ false → both_rows new old ≡ []
+  abbrev pub TurnOf : Left → Left → Option Turn → Type 0
+  TurnOf new old (Some r) = Goes new old r
+  TurnOf new old None = both_rows new old ≡ []
+
+  pub record TurnIs (new old : Left) (r : Option Turn) : Type 0 where
+    pub is : TurnOf new old r
 
   -- the rows of both are put, and counted
   pub record PutsRows (new old : Left) (buf : List ℕ) (at : ℕ) (r : MergedRows) (end : List ℕ) : Type 0 where

@@ -2,22 +2,21 @@
 ghost use Rattle.std.specs.Prelude.{◌≤◌, ◌≡◌};
 ghost use Rattle.wire.specs.Lists.{last_count};
 ghost use Rattle.wire.specs.Put.{Put};
-ghost use Rattle.meld.specs.Merged.{Leads, TurnIs, own_turn, turn_bytes, PutsRows, merged_bytes, changes_anew};
+ghost use Rattle.meld.specs.Merged.{Leads, Goes, TurnIs, own_turn, lower_turn, turn_bytes, PutsRows, merged_bytes, changes_anew};
 
-use wire::text::Part;
-use std::cmp::Ordering;
 use crate::row::{Left, Row, first_row, rows_at};
 use change::copy::put_between;
 use records::write_node::put_list_if;
+use std::cmp::Ordering;
 use wire::number::put_number;
 use wire::order::compare_part;
 use wire::part::part;
 use wire::put::put_part;
+use wire::text::Part;
 
-// The next row, from `start` to `end`, if there is more: one of the delta given, or of the image. Then the rows left of both.
+// The next row, from `start` to `end`: one of the delta given, or of the image. Then the rows left of both.
 #[derive(Clone, Copy)]
 pub struct Turn {
-    pub more: bool,
     pub own: bool,
     pub start: usize,
     pub end: usize,
@@ -25,51 +24,36 @@ pub struct Turn {
     pub old: Left,
 }
 
-// The row whose name is less; of equal names the one given.
-fn next_turn(img: &[u8], given: &[u8], new: Left, old: Left) -> Turn
+// The row whose name is less, if there is more; of equal names the one given.
+fn next_turn(img: &[u8], given: &[u8], new: Left, old: Left) -> Option<Turn>
     ensures { TurnIs img.now given.now new old result }
 {
     let upper = first_row(given, new);
     let lower = first_row(img, old);
-    if upper.there {
-        if lower.there {
-            return turn_between(img, given, new, upper, old, lower);
-        }
-        return own_turn(new, upper, old);
-    }
-    let below = lower.rest;
-    Turn {
-        more: lower.there,
-        own: false,
-        start: old.first,
-        end: below.first,
-        new,
-        old: below,
+    match upper {
+        Some(above) => match lower {
+            Some(below) => Some(turn_between(img, given, new, above, old, below)),
+            None => Some(own_turn(new, above, old)),
+        },
+        None => match lower {
+            Some(below) => Some(lower_turn(new, old, below)),
+            None => None,
+        },
     }
 }
 
 // The same, where both have a row.
 fn turn_between(img: &[u8], given: &[u8], new: Left, upper: Row, old: Left, lower: Row) -> Turn
     requires { Leads given.now new upper × Leads img.now old lower }
-    ensures { TurnIs img.now given.now new old result }
+    ensures { Goes img.now given.now new old result }
 {
+    let name = upper.name;
     let below = lower.rest;
-    match compare_part(
-        given,
-        upper.start,
-        upper.length,
-        part(img, lower.start, lower.length),
-    ) {
+    let other = part(img, lower.name.start, lower.name.length);
+    match compare_part(given, name.start, name.length, other) {
         Ordering::Less => own_turn(new, upper, old),
         Ordering::Equal => own_turn(new, upper, below),
-        Ordering::Greater => Turn {
-            more: true,
-            own: false,
-            start: old.first,
-            end: below.first,
-            new,
-            old: below,
-        },
+        Ordering::Greater => lower_turn(new, old, lower),
     }
 }
 
@@ -77,14 +61,25 @@ fn turn_between(img: &[u8], given: &[u8], new: Left, upper: Row, old: Left, lowe
 fn own_turn(new: Left, upper: Row, old: Left) -> Turn
     ensures { result ≡ own_turn new upper old }
 {
-    let above = upper.rest;
     Turn {
-        more: true,
         own: true,
         start: new.first,
-        end: above.first,
-        new: above,
+        end: upper.rest.first,
+        new: upper.rest,
         old,
+    }
+}
+
+// The row of the image, and then what is left.
+fn lower_turn(new: Left, old: Left, lower: Row) -> Turn
+    ensures { result ≡ lower_turn new old lower }
+{
+    Turn {
+        own: false,
+        start: old.first,
+        end: lower.rest.first,
+        new,
+        old: lower.rest,
     }
 }
 
@@ -116,15 +111,13 @@ fn put_merged_rows(
     requires { (new.count ≤ last_count) × (old.count ≤ last_count) }
     ensures { PutsRows img.now given.now new old buf.old at result buf.new }
 {
-    let mut turn = next_turn(img, given, new, old);
+    let mut next = next_turn(img, given, new, old);
     let mut end = at;
     let mut count: u64 = 0;
-    while turn.more {
+    while let Some(turn) = next {
         end = put_turn(buf, end, img, given, turn);
-        count = count + 1;
-        let above = turn.new;
-        let below = turn.old;
-        turn = next_turn(img, given, above, below);
+        count += 1;
+        next = next_turn(img, given, turn.new, turn.old);
     }
     MergedRows { end, count }
 }

@@ -1,13 +1,19 @@
 // The words of a line.
 ghost use Rattle.std.specs.Prelude.{◌≤◌, length};
 
+use wire::order::{Ordering, compare_part};
+
 // The word of this number, counted from 0; none is the empty word.
 pub fn word(line: &[u8], number: usize) -> &[u8] {
     line.split(|byte| *byte == b' ').nth(number).unwrap_or(&[])
 }
 
 pub fn same(a: &[u8], b: &[u8]) -> bool {
-    a == b
+    match compare_part(a, 0, a.len(), b) {
+        Ordering::Less => false,
+        Ordering::Equal => true,
+        Ordering::Greater => false,
+    }
 }
 
 // A decimal number; the largest one where it is larger than that.

@@ -5,8 +5,7 @@ use script::line::{bytes, decimal, same, word};
 use script::show;
 use std::io;
 use survey::batch::InodeLayerStack;
-use survey::store::{Verdict, read_image};
-use wire::cursor::Cursor;
+use survey::store::read_image;
 use wire::number::{put_number, read_number};
 use wire::order::compare_part;
 use wire::part::part;
@@ -39,20 +38,14 @@ fn number(rt: &impl Print, line: &[u8]) -> io::Result<()> {
     show::text(rt, b" = ")?;
     let mut input = [0u8; 512];
     let length = bytes(word(line, 2), &mut input);
-    let read = read_number(
-        part(&input, 0, length),
-        Cursor::At(0),
-        decimal(word(line, 1)),
-    );
-    let next = read.next;
-    match next {
-        Cursor::At(end) => {
-            show::number(rt, read.value)?;
+    match read_number(part(&input, 0, length), 0, decimal(word(line, 1))) {
+        Ok((value, end)) => {
+            show::number(rt, value)?;
             let mut output = [0u8; 512];
-            let stop = put_number(&mut output, 0, read.value);
+            let stop = put_number(&mut output, 0, value);
             show::written(rt, end, part(&output, 0, stop))
         }
-        Cursor::Stop(why) => show::fault(rt, why),
+        Err(why) => show::fault(rt, why),
     }
 }
 
@@ -60,23 +53,17 @@ fn text(rt: &impl Print, line: &[u8]) -> io::Result<()> {
     show::text(rt, b" = ")?;
     let mut input = [0u8; 512];
     let length = bytes(word(line, 3), &mut input);
-    let read = read_text(
-        part(&input, 0, length),
-        Cursor::At(0),
-        decimal(word(line, 1)),
-        decimal(word(line, 2)),
-    );
-    let next = read.next;
-    match next {
-        Cursor::At(end) => {
-            show::number(rt, read.start as u64)?;
-            show::text(rt, b" ")?;
-            show::number(rt, read.length as u64)?;
+    let least = decimal(word(line, 1));
+    let most = decimal(word(line, 2));
+    match read_text(part(&input, 0, length), 0, least, most) {
+        Ok((text, end)) => {
+            show::number(rt, text.start as u64)?;
+            show::next(rt, text.length as u64)?;
             let mut output = [0u8; 512];
-            let stop = put_text(&mut output, 0, part(&input, read.start, read.length));
+            let stop = put_text(&mut output, 0, part(&input, text.start, text.length));
             show::written(rt, end, part(&output, 0, stop))
         }
-        Cursor::Stop(why) => show::fault(rt, why),
+        Err(why) => show::fault(rt, why),
     }
 }
 
@@ -84,19 +71,15 @@ fn time(rt: &impl Print, line: &[u8]) -> io::Result<()> {
     show::text(rt, b" = ")?;
     let mut input = [0u8; 512];
     let length = bytes(word(line, 1), &mut input);
-    let read = read_time(part(&input, 0, length), Cursor::At(0));
-    let next = read.next;
-    match next {
-        Cursor::At(end) => {
-            let moment = read.time;
+    match read_time(part(&input, 0, length), 0) {
+        Ok((moment, end)) => {
             show::signed(rt, moment.seconds)?;
-            show::text(rt, b" ")?;
-            show::number(rt, moment.nanos as u64)?;
+            show::next(rt, moment.nanos as u64)?;
             let mut output = [0u8; 512];
             let stop = put_time(&mut output, 0, moment);
             show::written(rt, end, part(&output, 0, stop))
         }
-        Cursor::Stop(why) => show::fault(rt, why),
+        Err(why) => show::fault(rt, why),
     }
 }
 
@@ -119,22 +102,15 @@ fn image(rt: &impl Print, line: &[u8]) -> io::Result<()> {
     show::text(rt, b" = ")?;
     let mut input = [0u8; 512];
     let length = bytes(word(line, 2), &mut input);
-    let read = read_image(part(&input, 0, length), decimal(word(line, 1)));
-    let verdict = read.verdict;
-    match verdict {
-        Verdict::Fine => {
-            let survey = read.survey;
-            stack(rt, survey.stack)
-        }
-        Verdict::TooLong => show::text(rt, b"refused 1"),
-        Verdict::Broken => show::text(rt, b"refused 2"),
+    match read_image(part(&input, 0, length), decimal(word(line, 1))) {
+        Ok(survey) => stack(rt, survey.stack),
+        Err(refusal) => print!(rt; "refused {}", refusal.number()),
     }
 }
 
 // The place of the node, then those of the records.
 fn stack(rt: &impl Print, found: InodeLayerStack) -> io::Result<()> {
-    let base = found.base;
-    match base {
+    match found.base {
         Some(place) => show::number(rt, place as u64)?,
         None => show::text(rt, b"-")?,
     }

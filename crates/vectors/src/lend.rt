@@ -1,17 +1,17 @@
 // Rows lent to a listing, and read afterwards.
 ghost use Rattle.std.specs.Prelude.{◌≤◌};
 
-use layers::answer::RowsAnswer;
 use rows::listing::{Entry, list_directory, list_xattrs};
 use script::line::{bytes, decimal, word};
 use script::show;
 use std::io;
+use survey::refusal::Refusal;
 use wire::part::part;
 
 #[derive(Clone, Copy)]
 pub struct Listed {
     pub rows: [Entry; 16],
-    pub answer: RowsAnswer,
+    pub answer: Result<Option<usize>, Refusal>,
 }
 
 // The first `room` of the rows are lent.
@@ -76,11 +76,10 @@ pub fn names(rt: &impl Print, line: &[u8]) -> io::Result<()> {
 }
 
 fn answered(rt: &impl Print, img: &[u8], listed: Listed, inodes: bool) -> io::Result<()> {
-    let answer = listed.answer;
-    match answer {
-        RowsAnswer::Refused(number) => show::refused(rt, number),
-        RowsAnswer::None => show::text(rt, b" = none"),
-        RowsAnswer::Rows(count) => {
+    match listed.answer {
+        Err(refusal) => show::refused(rt, refusal.number()),
+        Ok(None) => show::text(rt, b" = none"),
+        Ok(Some(count)) => {
             show::text(rt, b" = ")?;
             show::number(rt, count as u64)?;
             shown(rt, img, listed, count, inodes)

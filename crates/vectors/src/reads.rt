@@ -1,12 +1,12 @@
 // The reads of an image's layers.
 use crate::lend;
 use attrs::node::FileAttr;
-use layers::answer::{AttrAnswer, InodeAnswer, TypeAnswer, YesNo};
 use layers::{attr as file_attr, layers as reads};
 use lookup::child::lookup_child;
 use script::line::{bytes, decimal, same, word};
 use script::show;
 use std::io;
+use survey::refusal::Refusal;
 use wire::part::part;
 use xattrs::xattr::{get_xattr, has_xattr};
 
@@ -48,9 +48,9 @@ fn exists(rt: &impl Print, line: &[u8]) -> io::Result<()> {
     let length = bytes(word(line, 2), &mut image);
     let found = reads::exists(part(&image, 0, length), decimal(word(line, 1)));
     match found {
-        YesNo::Refused(number) => show::refused(rt, number),
-        YesNo::No => show::text(rt, b" = no"),
-        YesNo::Yes => show::text(rt, b" = yes"),
+        Err(refusal) => show::refused(rt, refusal.number()),
+        Ok(false) => show::text(rt, b" = no"),
+        Ok(true) => show::text(rt, b" = yes"),
     }
 }
 
@@ -59,9 +59,9 @@ fn file_type(rt: &impl Print, line: &[u8]) -> io::Result<()> {
     let length = bytes(word(line, 2), &mut image);
     let found = reads::file_type(part(&image, 0, length), decimal(word(line, 1)));
     match found {
-        TypeAnswer::Refused(number) => show::refused(rt, number),
-        TypeAnswer::None => show::text(rt, b" = none"),
-        TypeAnswer::Type(kind) => {
+        Err(refusal) => show::refused(rt, refusal.number()),
+        Ok(None) => show::text(rt, b" = none"),
+        Ok(Some(kind)) => {
             show::text(rt, b" = ")?;
             show::letter(rt, kind)
         }
@@ -88,11 +88,11 @@ fn parent(rt: &impl Print, line: &[u8]) -> io::Result<()> {
     inode(rt, found)
 }
 
-fn inode(rt: &impl Print, found: InodeAnswer) -> io::Result<()> {
+fn inode(rt: &impl Print, found: Result<Option<u64>, Refusal>) -> io::Result<()> {
     match found {
-        InodeAnswer::Refused(number) => show::refused(rt, number),
-        InodeAnswer::None => show::text(rt, b" = none"),
-        InodeAnswer::Inode(number) => {
+        Err(refusal) => show::refused(rt, refusal.number()),
+        Ok(None) => show::text(rt, b" = none"),
+        Ok(Some(number)) => {
             show::text(rt, b" = inode ")?;
             show::number(rt, number)
         }
@@ -104,9 +104,9 @@ fn attr(rt: &impl Print, line: &[u8]) -> io::Result<()> {
     let length = bytes(word(line, 2), &mut image);
     let found = file_attr::attr(part(&image, 0, length), decimal(word(line, 1)));
     match found {
-        AttrAnswer::Refused(number) => show::refused(rt, number),
-        AttrAnswer::None => show::text(rt, b" = none"),
-        AttrAnswer::Attr(shown) => {
+        Err(refusal) => show::refused(rt, refusal.number()),
+        Ok(None) => show::text(rt, b" = none"),
+        Ok(Some(shown)) => {
             show::text(rt, b" = ")?;
             attributes(rt, shown)
         }
@@ -154,11 +154,11 @@ fn xattr(rt: &impl Print, line: &[u8]) -> io::Result<()> {
 }
 
 // A text, and the answer of the call beside it.
-fn text(rt: &impl Print, found: YesNo, value: &[u8]) -> io::Result<()> {
+fn text(rt: &impl Print, found: Result<bool, Refusal>, value: &[u8]) -> io::Result<()> {
     match found {
-        YesNo::Refused(number) => show::refused(rt, number),
-        YesNo::No => show::text(rt, b" = none"),
-        YesNo::Yes => {
+        Err(refusal) => show::refused(rt, refusal.number()),
+        Ok(false) => show::text(rt, b" = none"),
+        Ok(true) => {
             show::text(rt, b" = text ")?;
             show::word(rt, value)
         }

@@ -1,7 +1,6 @@
 // The changes of an image.
 ghost use Rattle.std.specs.Prelude.{◌≤◌};
 
-use change::answer::ChangeAnswer;
 use directory::directory::{add_dir_entry, remove_dir_entry, update_dir_parent};
 use flush::flush::{fold_entries, snapshot_all};
 use normalize::normalize::normalize_directory_deltas;
@@ -10,6 +9,7 @@ use queue::queue::{freeze_live, pop_flushed_batch, record_mutation, request};
 use script::line::{bytes, decimal, same, word};
 use script::show;
 use std::io;
+use survey::refusal::Refusal;
 use update::update::update_attr_delta;
 use wire::part::part;
 use wire::time::Time;
@@ -143,17 +143,22 @@ fn show_change(
     given: &[u8],
     target: &mut [u8],
 ) -> io::Result<()> {
-    let answer = change(line, call, img, given, target);
-    match answer {
-        ChangeAnswer::Refused(number) => show::refused(rt, number),
-        ChangeAnswer::Length(length) => {
+    match change(line, call, img, given, target) {
+        Err(refusal) => show::refused(rt, refusal.number()),
+        Ok(length) => {
             show::text(rt, b" = image ")?;
             show::word(rt, part(target, 0, length))
         }
     }
 }
 
-fn change(line: &[u8], call: Call, img: &[u8], given: &[u8], target: &mut [u8]) -> ChangeAnswer {
+fn change(
+    line: &[u8],
+    call: Call,
+    img: &[u8],
+    given: &[u8],
+    target: &mut [u8],
+) -> Result<usize, Refusal> {
     let first = decimal(word(line, 1));
     let second = decimal(word(line, 2));
     let third = decimal(word(line, 3));

@@ -15,7 +15,6 @@ mod changes;
 
 use changes::answer;
 use input::fill;
-use script::line::find;
 use std::io;
 
 fn main(rt: HostRuntime) -> io::Result<()> {
@@ -25,11 +24,8 @@ fn main(rt: HostRuntime) -> io::Result<()> {
 }
 
 fn replay(rt: &impl Print, list: &[u8]) -> io::Result<()> {
-    let mut at = 0;
-    while at < list.len() {
-        let end = find(list, at, b'\n');
-        answer(rt, &list[at..end])?;
-        at = end + 1;
+    for line in list.split_inclusive(|byte| *byte == b'\n') {
+        answer(rt, line.strip_suffix(b"\n").unwrap_or(line))?;
     }
     Ok(())
 }

@@ -1,19 +1,17 @@
-use mathlib.Core.Path.{refl, sym}
+use mathlib.Core.Path.{refl}
 use Rattle.rules.specs.Initial.{usual}
 use Rattle.rules.specs.Asks.{Ask, ask, reply}
+use Rattle.wire.proofs.Readers.{handed}
 use Rattle.stack.proofs.Opening.{opened-refused, opened-fine}
+use Rattle.layers.proofs.Calls.{type-there}
 use Rattle.layers.proofs.layers.exists.Goals as goal
 
-pub returns-then-refusal-ne0 : goal.returns-then-refusal-ne0
-returns-then-refusal-ne0 c = sym (opened-refused c.open_image-opened.ensures (ask usual (Ask.exists c.args.ino)) c.if-refusal-ne0.true)
+pub returns-in_err-stack : goal.returns-in_err-stack
+returns-in_err-stack c = rw (handed c.from_residual.ensures, opened-refused c.open_image.ensures (ask usual (Ask.exists c.args.ino)) c.in_err-stack.was)
 
 pub type_in-found-requires : goal.type_in-found-requires
-type_in-found-requires c = (c.open_image-opened.ensures.stack c.if-refusal-ne0.false).stacked
+type_in-found-requires c = c.in_ok-stack.ensures.stack.stacked
 
-pub returns-in-Some : goal.returns-in-Some
+pub returns : goal.returns
 unfolding reply
-returns-in-Some c = rw (opened-fine c.open_image-opened.ensures usual (Ask.exists c.args.ino) refl c.if-refusal-ne0.false, ← c.type_in-found.ensures, c.in-Some.is)
-
-pub returns-in-None : goal.returns-in-None
-unfolding reply
-returns-in-None c = rw (opened-fine c.open_image-opened.ensures usual (Ask.exists c.args.ino) refl c.if-refusal-ne0.false, ← c.type_in-found.ensures, c.in-None.is)
+returns c = rw (opened-fine c.open_image.ensures usual (Ask.exists c.args.ino) refl c.in_ok-stack.was, ← c.type_in-found.ensures, c.is_some.ensures, type-there c.type_in-found.result)

@@ -1,19 +1,9 @@
-use mathlib.Core.Path.{refl}
-use Rattle.rules.specs.Initial.{usual}
-use Rattle.rules.specs.Asks.{Ask, ask, reply}
-use Rattle.stack.proofs.Opening.{opened-refused, opened-fine}
+use Rattle.wire.proofs.Readers.{handed}
+use Rattle.layers.proofs.Calls.{there-stop, there-found}
 use Rattle.layers.proofs.layers.has_link.Goals as goal
 
-pub returns-then-refusal-ne0 : goal.returns-then-refusal-ne0
-returns-then-refusal-ne0 c = rw (opened-refused c.open_image-opened.ensures (ask usual (Ask.link_text c.args.ino)) c.if-refusal-ne0.true)
+pub returns-in_err-found : goal.returns-in_err-found
+returns-in_err-found c = there-stop c.args.img.now c.link_of.ensures c.in_err-found.was (handed c.from_residual.ensures)
 
-pub link_in-found-requires : goal.link_in-found-requires
-link_in-found-requires c = (c.open_image-opened.ensures.stack c.if-refusal-ne0.false).stacked
-
-pub returns-in-Some : goal.returns-in-Some
-unfolding reply
-returns-in-Some c = rw (opened-fine c.open_image-opened.ensures usual (Ask.link_text c.args.ino) refl c.if-refusal-ne0.false, ← c.link_in-found.ensures, c.in-Some.is)
-
-pub returns-in-None : goal.returns-in-None
-unfolding reply
-returns-in-None c = rw (opened-fine c.open_image-opened.ensures usual (Ask.link_text c.args.ino) refl c.if-refusal-ne0.false, ← c.link_in-found.ensures, c.in-None.is)
+pub returns : goal.returns
+returns c = there-found c.args.img.now c.link_of.ensures c.in_ok-found.was c.is_some.ensures

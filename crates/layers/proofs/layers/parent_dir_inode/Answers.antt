@@ -1,24 +1,21 @@
-use borrow.Author.Tests.{ne_eqb}
-use mathlib.Core.Path.{refl, sym}
+use mathlib.Core.Path.{refl}
 use Rattle.rules.specs.Initial.{usual}
 use Rattle.rules.specs.Asks.{Ask, ask, reply}
+use Rattle.wire.proofs.Readers.{handed}
 use Rattle.stack.proofs.Opening.{opened-refused, opened-fine}
+use borrow.Author.Tests.{ne_eqb}
 use Rattle.layers.proofs.layers.parent_dir_inode.Goals as goal
 
-pub returns-then-refusal-ne0 : goal.returns-then-refusal-ne0
-returns-then-refusal-ne0 c = sym (opened-refused c.open_image-opened.ensures (ask usual (Ask.parent c.args.ino)) c.if-refusal-ne0.true)
+pub returns-in_err-stack : goal.returns-in_err-stack
+returns-in_err-stack c = rw (handed c.from_residual.ensures, opened-refused c.open_image.ensures (ask usual (Ask.parent c.args.ino)) c.in_err-stack.was)
 
 pub returns-then-ino-eq1 : goal.returns-then-ino-eq1
 unfolding reply
-returns-then-ino-eq1 c = rw (opened-fine c.open_image-opened.ensures usual (Ask.parent c.args.ino) refl c.if-refusal-ne0.false, c.if-ino-eq1.true)
+returns-then-ino-eq1 c = rw (opened-fine c.open_image.ensures usual (Ask.parent c.args.ino) refl c.in_ok-stack.was, c.if-ino-eq1.true)
 
 pub parent_in-found-requires : goal.parent_in-found-requires
-parent_in-found-requires c = (c.open_image-opened.ensures.stack c.if-refusal-ne0.false).stacked
+parent_in-found-requires c = c.in_ok-stack.ensures.stack.stacked
 
-pub returns-in-Some : goal.returns-in-Some
+pub returns : goal.returns
 unfolding reply
-returns-in-Some c = rw (opened-fine c.open_image-opened.ensures usual (Ask.parent c.args.ino) refl c.if-refusal-ne0.false, ne_eqb c.args.ino 1 c.if-ino-eq1.false, ← c.parent_in-found.ensures, c.in-Some.is)
-
-pub returns-in-None : goal.returns-in-None
-unfolding reply
-returns-in-None c = rw (opened-fine c.open_image-opened.ensures usual (Ask.parent c.args.ino) refl c.if-refusal-ne0.false, ne_eqb c.args.ino 1 c.if-ino-eq1.false, ← c.parent_in-found.ensures, c.in-None.is)
+returns c = rw (opened-fine c.open_image.ensures usual (Ask.parent c.args.ino) refl c.in_ok-stack.was, ne_eqb c.args.ino 1 c.if-ino-eq1.false, ← c.parent_in-found.ensures)

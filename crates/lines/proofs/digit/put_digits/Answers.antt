@@ -1,16 +1,16 @@
 use mathlib.Core.Path.{refl, sym, ◌∙◌}
 use native.Mathlib.Omega.{arith}
-use Rattle.lines.proofs.Spelling.{spelled_none, spelled-more, spelled-done, spelled-full, put_same}
+use Rattle.lines.proofs.Spelling.{spelled_none, spelled-more, spelled-next, spelled-full, put_same}
 use Rattle.lines.proofs.digit.put_digits.Goals as goal
 
-pub loop-start-init : goal.loop-start-init
-loop-start-init c = (refl, spelled_none refl)
+pub loop-i-init : goal.loop-i-init
+loop-i-init c = (refl, spelled_none refl)
 
 pub returns-then-is_done : goal.returns-then-is_done
-returns-then-is_done c = put_same c.loop-start.invariant.0 (spelled-done c.loop-start.invariant.1 (sym c.is_done.ensures ∙ c.if-is_done.true)) c.put_part.ensures
+returns-then-is_done c = put_same c.loop-i.invariant.0 (spelled-next c.loop-i.invariant.1 (omega arith) (sym c.is_done.ensures ∙ c.if-is_done.true)) c.put_part.ensures
 
-pub loop-start-preserved : goal.loop-start-preserved
-loop-start-preserved c = (c.loop-start.invariant.0, spelled-more c.loop-start.invariant.1 c.loop-start-test.true (sym c.is_done.ensures ∙ c.if-is_done.false) c.less_one-left.ensures)
+pub loop-i-preserved : goal.loop-i-preserved
+loop-i-preserved c = (c.loop-i.invariant.0, spelled-more c.loop-i.invariant.1 (omega arith) (sym c.is_done.ensures ∙ c.if-is_done.false) c.less_one-left.ensures)
 
 pub returns : goal.returns
-returns c = put_same c.loop-start.invariant.0 (spelled-full c.loop-start.invariant.1 (omega arith)) c.put_bytes.ensures
+returns c = put_same c.loop-i.invariant.0 (spelled-full c.loop-i.invariant.1 (omega arith)) c.put_bytes.ensures

@@ -1,14 +1,17 @@
-use Rattle.meld.proofs.Merging.{turn-lower, turn-own}
+use Rattle.meld.proofs.Merging.{leads, turn-none, turn-lower, turn-own}
 use Rattle.meld.proofs.merged.next_turn.Goals as goal
 
 pub turn_between-requires : goal.turn_between-requires
-turn_between-requires c = (c.first_row-upper.ensures.leads c.if-upper.true, c.first_row-lower.ensures.leads c.if-lower.true)
+turn_between-requires c = (leads c.first_row-upper.ensures c.in-Some.is, leads c.first_row-lower.ensures c.in-Some-lower.is)
 
-pub returns-then-lower : goal.returns-then-lower
-returns-then-lower c = c.turn_between.ensures
+pub returns-in-Some-lower : goal.returns-in-Some-lower
+returns-in-Some-lower c = record { is = c.turn_between.ensures }
 
-pub returns-then-upper : goal.returns-then-upper
-returns-then-upper c = rw c.own_turn.ensures (turn-own (c.first_row-upper.ensures.leads c.if-upper.true) c.first_row-lower.ensures c.if-lower.false)
+pub returns-in-None-lower : goal.returns-in-None-lower
+returns-in-None-lower c = rw c.own_turn.ensures (turn-own c.first_row-upper.ensures c.in-Some.is c.first_row-lower.ensures c.in-None-lower.is)
 
-pub returns : goal.returns
-returns c = turn-lower c.first_row-upper.ensures c.if-upper.false c.first_row-lower.ensures
+pub returns-in-Some-lower-2 : goal.returns-in-Some-lower-2
+returns-in-Some-lower-2 c = rw c.lower_turn.ensures (turn-lower c.first_row-upper.ensures c.in-None.is c.first_row-lower.ensures c.in-Some-lower-2.is)
+
+pub returns-in-None-lower-2 : goal.returns-in-None-lower-2
+returns-in-None-lower-2 c = turn-none c.first_row-upper.ensures c.in-None.is c.first_row-lower.ensures c.in-None-lower-2.is

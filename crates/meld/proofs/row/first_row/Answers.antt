@@ -1,14 +1,14 @@
-use Rattle.meld.proofs.Merging.{row-none, row-stopped, row_first}
+use Rattle.meld.proofs.Merging.{row-none, row-unnamed, row-stopped, row_first}
 use Rattle.meld.proofs.row.first_row.Goals as goal
 
 pub returns-then-left-eq0 : goal.returns-then-left-eq0
-returns-then-left-eq0 c = rw c.no_row.ensures (row-none c.if-left-eq0.true)
-
-pub pass_under-next-requires : goal.pass_under-next-requires
-pass_under-next-requires c = c.read_text-name.ensures.reads.within
+returns-then-left-eq0 c = row-none c.if-left-eq0.true
 
 pub returns-in_default : goal.returns-in_default
-returns-in_default c = rw c.no_row-in_default.ensures (row-stopped _ _ c.read_text-name.ensures.reads c.pass_under-next.ensures c.in_default.is)
+returns-in_default c = row-unnamed c.read_text.ensures c.in_default.is
+
+pub returns-in_default-pass_under : goal.returns-in_default-pass_under
+returns-in_default-pass_under c = row-stopped c.read_text.ensures c.in-Ok.is c.pass_under.ensures c.in_default-pass_under.is
 
 pub returns : goal.returns
-returns c = row_first c.read_text-name.result.start c.read_text-name.result.length _ _ c.if-left-eq0.false c.read_text-name.ensures.reads c.pass_under-next.ensures c.in-At.is
+returns c = row_first c.if-left-eq0.false c.read_text.ensures c.in-Ok.is c.pass_under.ensures c.in-Ok-pass_under.is
