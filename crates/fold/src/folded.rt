@@ -12,12 +12,12 @@ use attrs::node::{FileType, kind_type};
 use deltas::delta::{EntryDelta, NodeDelta, attr_delta};
 use gather::gather::of_type;
 use nodes::node::{Node, NodeKind};
-use wire::text::Part;
 use records::write_node::{kind_number, put_body};
 use stack::stack::{base_node, record_at};
 use survey::batch::InodeLayerStack;
 use wire::number::put_number;
 use wire::put::put_part;
+use wire::text::Part;
 use writers::write_attr::put_inode_meta;
 
 // Where a list of a folded node comes from.

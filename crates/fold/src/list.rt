@@ -13,10 +13,10 @@ use attrs::node::FileType;
 use gather::gather::{Lists, gather_sources};
 use merge::merge::{Sources, next_given};
 use merge::source::Head;
-use wire::text::Part;
 use survey::batch::InodeLayerStack;
 use wire::number::put_number;
 use wire::put::advance;
+use wire::text::Part;
 use writers::write::{put_entry, put_text_part};
 
 // The entries of a directory, or the attributes.

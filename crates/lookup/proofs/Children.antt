@@ -1,6 +1,6 @@
 -- The child lookup, layer by layer.
 -- Assumes nothing.
-use Rattle.std.specs.Prelude.{None, Option, Some}
+use Rattle.std.specs.Prelude.{Result, Ok, None, Option, Some}
 use mathlib.Core.Path.{◌≡◌, refl, sym, ap, ◌∙◌, subst}
 use mathlib.Core.List.{List}
 use Prim.Native.Nat.{ℕ, zero, suc, ◌+◌, ◌-◌, ◌≤◌, ◌<◌}
@@ -8,13 +8,12 @@ use native.Mathlib.Omega.{arith}
 use lib.ListN.{get_or}
 use denote.Enum.Declared.{tag_of}
 use types.Run.{OneOf}
-use Rattle.wire.specs.declared.cursor.Cursor.{Cursor}
-use Rattle.wire.specs.declared.cursor.Cursor.TheVariants.{At}
+use Rattle.wire.specs.declared.fault.Fault.{Fault}
 use Rattle.std.specs.declared.cmp.Ordering.TheVariants.{Less, Equal, Greater}
 use Rattle.wire.specs.Number.{edge, number_read}
 use Rattle.wire.specs.Orders.{by_bytes}
 use Rattle.wire.specs.Maps.{get, meet}
-use Rattle.wire.specs.Reading.{Answers}
+use Rattle.wire.specs.Reading.{Reads}
 use Rattle.survey.specs.declared.batch.InodeLayerStack.{InodeLayerStack}
 use Rattle.image.specs.declared.name.Under.TheVariants as U
 use Rattle.image.specs.Meaning.{Text}
@@ -153,8 +152,8 @@ module _ {img : List ℕ} {s : InodeLayerStack} {name : Text} where
       within-past e = below (seeks-past w.seeks h g e)
 
       -- the inode under the name is the child
-      pub within-here : by_bytes.cmp (row_name img r) name ≡ Equal → {n : ℕ} {next : Cursor} → Answers img (number_read edge) (At r.under) 0 n next → Some n ≡ shown (child name) img s
-      within-here e a = rw (read_same g.held a.reads) (sym (rw (seeks-here w.seeks h g e) at w.same))
+      pub within-here : by_bytes.cmp (row_name img r) name ≡ Equal → {o : Result (ℕ × ℕ) Fault} {n m : ℕ} → Reads img (number_read edge) r.under o → o ≡ Ok (n, m) → Some n ≡ shown (child name) img s
+      within-here e a d = rw (read_same g.held a d) (sym (rw (seeks-here w.seeks h g e) at w.same))
 
   module _ {found : Option ℕ} {layer : ℕ} (w : Passed img s name found layer) where
     pub passed-on : 0 < layer → Above img s name found (layer - 1)

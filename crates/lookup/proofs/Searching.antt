@@ -1,14 +1,12 @@
 -- How a list by name is looked through, row by row.
 -- Assumes nothing.
-use Rattle.std.specs.Prelude.{None, Option, Some}
+use Rattle.std.specs.Prelude.{Result, Ok, Err, IsOk, None, Option, Some}
 use mathlib.Core.Path.{◌≡◌, refl, sym, ap, ◌∙◌, subst}
 use mathlib.Core.List.{List, [], ◌∷◌}
 use Prim.Native.Nat.{ℕ, zero, suc, ◌-◌, ◌≤◌, ◌<◌}
 use native.Mathlib.Omega.{arith}
 use lib.ListN.{drop}
-use Rattle.wire.specs.declared.cursor.Fault.{Fault}
-use Rattle.wire.specs.declared.cursor.Cursor.{Cursor}
-use Rattle.wire.specs.declared.cursor.Cursor.TheVariants.{At, Stop}
+use Rattle.wire.specs.declared.fault.Fault.{Fault}
 use Rattle.std.specs.declared.cmp.Ordering.{Ordering}
 use Rattle.std.specs.declared.cmp.Ordering.TheVariants.{Less, Equal, Greater}
 use Rattle.wire.specs.Parse.{Parsed, got, bind, never-got, bind_inv}
@@ -19,14 +17,14 @@ use Rattle.wire.specs.Rows.{choose, lookup, Under}
 use Rattle.wire.specs.RowLaws.{lookup-under, under-below, never-lt}
 use Rattle.wire.specs.Maps.{Map, get, as_map, rows-as_map}
 use Rattle.wire.specs.Lists.{row, onto, rows, rising-read, mapped, last_count}
-use Rattle.wire.specs.Reading.{Reads, Answers, AnswersPart, part, give, place_at}
+use Rattle.wire.specs.Reading.{Reads, ReadsPart}
 use Rattle.image.specs.declared.name.Under as U
 use Rattle.image.specs.Meaning.{Text}
 use Rattle.image.specs.FieldLayout.{name}
 use Rattle.image.specs.Under.{UnderName, under}
 use Rattle.image.specs.Places.{Ends, rows_from, Holds}
 use Rattle.image.proofs.Passing.{ends-got, ends-fault}
-use Rattle.image.proofs.Holding.{Row, apart}
+use Rattle.image.proofs.Holding.{apart}
 use Rattle.nodes.specs.Listed.{by_name, list_at, Listed}
 use Rattle.wire.specs.declared.text.Part.{Part}
 use Rattle.lookup.specs.declared.search.Rows.{Rows}
@@ -34,6 +32,26 @@ use Rattle.lookup.specs.declared.search.RowRead.{RowRead}
 use Rattle.lookup.specs.Search.{row_name, Standing, ListRows, RowAt, ReadsRow}
 use Rattle.wire.proofs.ListForms.{chain-forth, row-one, all-rising}
 use Rattle.image.proofs.OneForm.{name-one, under-one}
+
+-- ---- what is read where something stands
+
+module _ {A : Type 0} {img : List ℕ} {n : ℕ} {r : List ℕ} where
+  pub read-ok : {p : List ℕ → Parsed A} {a : A} {o : Result (A × ℕ) Fault} → p (drop n img) ≡ got a r → Reads img p n o → IsOk o
+  read-ok {p} {o = o} e h = go o h
+    where
+      go : (o : Result (A × ℕ) Fault) → Reads img p n o → IsOk o
+      go (Ok x) h = refl
+      go (Err f) h = never-got (sym h.same ∙ e)
+
+  pub read_same : {p : List ℕ → Parsed A} {a b : A} {m : ℕ} {o : Result (A × ℕ) Fault} → p (drop n img) ≡ got a r → Reads img p n o → o ≡ Ok (b, m) → b ≡ a
+  read_same e h d = let g = rw d at h in cc (g.same, e)
+
+pub part-ok : {img : List ℕ} {p : List ℕ → Parsed (List ℕ)} {n : ℕ} {a r : List ℕ} {o : Result (Part × ℕ) Fault} → p (drop n img) ≡ got a r → ReadsPart img p n o → IsOk o
+part-ok {img} {p} {n} {o = o} e h = go o h
+  where
+    go : (o : Result (Part × ℕ) Fault) → ReadsPart img p n o → IsOk o
+    go (Ok x) h = refl
+    go (Err f) h = never-got (sym h.same ∙ e)
 
 -- ---- the count of a list, and its rows
 
@@ -52,17 +70,17 @@ module _ (u : U.Under) where
       let e : m.rows ≡ i.0 = rows-as_map by_bytes i.0 m (mapped-is (as_map by_bytes i.0) i.1 i.3) in
       (j.0, j.1, j.2, (i.1, j.3 ∙ ap (λ (l : List (Text × UnderName u)). got l i.1) (sym e)))
 
-module _ {img : List ℕ} {u : U.Under} {p : Part} {end n : ℕ} {next : Cursor} (h : Listed img u p end) (a : Answers img (number_read last_count) (At p.start) 0 n next) where
-  pub rows-listed : {first : ℕ} → next ≡ At first → Standing img u None first n (list_at img u p).rows
-  rows-listed {first} e =
+module _ {img : List ℕ} {u : U.Under} {p : Part} {end : ℕ} (h : Listed img u p end) where
+  pub rows-ok : {o : Result (ℕ × ℕ) Fault} → Reads img (number_read last_count) p.start o → IsOk o
+  rows-ok {o} a = read-ok (counted u (drop p.start img) h.is).2 a
+
+  pub rows-listed : {o : Result (ℕ × ℕ) Fault} {n first : ℕ} → Reads img (number_read last_count) p.start o → o ≡ Ok (n, first) → Standing img u None first n (list_at img u p).rows
+  rows-listed {n = n} {first} a e =
       let b = rw e at a in
       let k = counted u (drop p.start img) h.is in
-      let en : k.0 ≡ n = cc (b.reads.same, k.2) in
-      let et : k.1 ≡ drop first img = cc (b.reads.same, k.2) in
-      record { rest = k.3.0; read = rw (en, et) at k.3.1; within = b.reads.within }
-
-  pub rows-stopped : {B : Type 0} {f : Fault} → next ≡ Stop f → B
-  rows-stopped e = never-got (sym (rw e at a).reads.same ∙ (counted u (drop p.start img) h.is).2)
+      let en : k.0 ≡ n = cc (b.same, k.2) in
+      let et : k.1 ≡ drop first img = cc (b.same, k.2) in
+      record { rest = k.3.0; read = rw (en, et) at k.3.1; within = b.within }
 
 -- ---- a row
 
@@ -73,18 +91,34 @@ pub record Taken (img : List ℕ) (u : U.Under) (left : ℕ) (rows : List (Text 
   pub standing : Standing img u (Some (row_name img r)) r.next (left - 1) others
   pub rise : Under by_bytes (row_name img r) others
 
-module _ {img : List ℕ} {u : U.Under} where
-  pub reads-row : {at s n : ℕ} {mid next : Cursor} → RowAt img u at → AnswersPart img (text-read 1 255) (At at) s n mid → Ends img (under u).read mid next
-      → ReadsRow img u at (record { start = s; «length» = n; under = place_at mid; next = place_at next })
-  reads-row {at} {s} {n} {mid} {next} h a g = go mid next a.reads.same g (apart by_bytes name (under u) img [] h.0 (drop at img) h.3)
-    where
-      go : (mid next : Cursor) → name.read (drop at img) ≡ give img (part img s n) mid → Ends img (under u).read mid next
-          → Row by_bytes name (under u) img [] (drop at img) h.1 h.2
-          → ReadsRow img u at (record { start = s; «length» = n; under = place_at mid; next = place_at next })
-      go (Stop f) next c g r = never-got (sym c ∙ r.keyed)
-      go (At m) (Stop f) c g r = let z : r.mid ≡ drop m img = cc r.keyed in never-got (sym (ends-fault {n = m} g) ∙ (rw z at r.valued))
-      go (At m) (At q) c g r = let v = ends-got {n = m} {q = q} g in record { value = v.0; named = c; held = v.1; within = g.within }
+module _ {img : List ℕ} (u : U.Under) {at : ℕ} (h : RowAt img u at) {o : Result (Part × ℕ) Fault} (a : ReadsPart img (text-read 1 255) at o) where
+  pub name-ok : IsOk o
+  name-ok = part-ok (apart by_bytes name (under u) img [] h.0 (drop at img) h.3).keyed a
 
+  module _ {k : Part} {m : ℕ} (d : o ≡ Ok (k, m)) {w : Result ℕ Fault} (g : Ends img (under u).read m w) where
+    -- what stands under the name is read after it
+    valued : (under u).read (drop m img) ≡ got h.1.1 h.2
+    valued =
+        let b = rw d at a in
+        let r = apart by_bytes name (under u) img [] h.0 (drop at img) h.3 in
+        let z : r.mid ≡ drop m img = cc (r.keyed, b.same) in
+        rw z at r.valued
+
+    pub under-ok : IsOk w
+    under-ok = go w g
+      where
+        go : (w : Result ℕ Fault) → Ends img (under u).read m w → IsOk w
+        go (Ok q) g = refl
+        go (Err f) g = never-got (sym (ends-fault g) ∙ valued)
+
+    pub reads-row : {q : ℕ} → w ≡ Ok q → ReadsRow img u at (record { start = k.start; «length» = k.length; under = m; next = q })
+    reads-row {q} e =
+        let b = rw d at a in
+        let f = rw e at g in
+        let v = ends-got f in
+        record { value = v.0; named = b.same; held = v.1; within = f.within }
+
+module _ {img : List ℕ} {u : U.Under} where
   pub row-there : {prev : Option Text} {here left : ℕ} {l : List (Text × UnderName u)} → 0 < left → Standing img u prev here left l → RowAt img u here
   row-there {prev} {here} {left} {l} h w = go left h w.read
     where
@@ -196,11 +230,3 @@ module _ {A : Type 0} (img : List ℕ) (p : List ℕ → Parsed A) where
   pub held-some : (n : ℕ) (o : Option A) → Holds img p (Some n) o → (a : A) × (r : List ℕ) × (o ≡ Some a) × (p (drop n img) ≡ got a r)
   held-some n None h = absurd h
   held-some n (Some a) h = (a, h.0, refl, h.1)
-
--- what was read there is what it holds
-pub read_same : {A : Type 0} {img : List ℕ} {p : List ℕ → Parsed A} {n : ℕ} {a b : A} {r : List ℕ} {next : Cursor} → p (drop n img) ≡ got a r → Reads img p (At n) b next → b ≡ a
-read_same {A} {img} {p} {n} {a} {b} {r} {next} e h = go next h.same
-  where
-    go : (next : Cursor) → p (drop n img) ≡ give img b next → b ≡ a
-    go (At q) d = cc
-    go (Stop f) d = never-got (sym d ∙ e)

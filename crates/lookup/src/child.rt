@@ -4,38 +4,29 @@ ghost use Rattle.rules.specs.Initial.{usual};
 ghost use Rattle.rules.specs.Reads.{child};
 ghost use Rattle.rules.specs.ReadCalls.{lookup_child};
 ghost use Rattle.stack.specs.Stacks.{Stacked, shown};
-ghost use Rattle.layers.specs.Answered.{inode_answered};
+ghost use Rattle.layers.specs.Answered.{answered};
 ghost use Rattle.lookup.specs.Children.{EntriesAt, BaseEntries};
 
-use wire::text::Part;
-use std::cmp::Ordering;
 use crate::search::{find_name, read_row, rows_of};
 use deltas::delta::{EntryDelta, NodeDelta};
 use image::name::Under;
-use layers::answer::InodeAnswer;
 use nodes::node::NodeKind;
 use stack::name::open_named;
 use stack::stack::{base_node, record_at};
+use std::cmp::Ordering;
 use survey::batch::InodeLayerStack;
-use wire::cursor::Cursor;
+use survey::refusal::Refusal;
 use wire::number::read_number;
 use wire::order::compare_part;
+use wire::text::Part;
 
 // The inode that a name leads to in a directory.
-pub fn lookup_child(img: &[u8], ino: u64, name: &[u8]) -> InodeAnswer
-    ensures { inode_answered result ≡ lookup_child usual img.now ino name.now }
+pub fn lookup_child(img: &[u8], ino: u64, name: &[u8]) -> Result<Option<u64>, Refusal>
+    ensures { answered (λ inode. inode) result ≡ lookup_child usual img.now ino name.now }
 {
-    let opened = open_named(img, ino, name);
-    let refusal = opened.refusal;
-    if refusal != 0 {
-        return InodeAnswer::Refused(refusal);
-    }
-    let stack = opened.stack;
+    let stack = open_named(img, ino, name)?;
     let child = child_in(img, stack, name);
-    match child {
-        Some(inode) => InodeAnswer::Inode(inode),
-        None => InodeAnswer::None,
-    }
+    Ok(child)
 }
 
 // From the top: the first layer that names the child, or removes it, decides. The base is layer 0.
@@ -56,8 +47,8 @@ fn child_in(img: &[u8], stack: InodeLayerStack, name: &[u8]) -> Option<u64>
             match compare_part(img, row.start, row.length, name) {
                 Ordering::Less => {}
                 Ordering::Equal => {
-                    let inode = read_number(img, Cursor::At(row.under), 0xFFFF_FFFF_FFFF_FFFF);
-                    found = Some(inode.value);
+                    let (inode, _) = read_number(img, row.under, u64::MAX).unwrap();
+                    found = Some(inode);
                     break 'layers;
                 }
                 Ordering::Greater => break,

@@ -1,12 +1,12 @@
 // Looking for a name in a list by name, where the list stands.
 ghost use Rattle.lookup.specs.Search.{IsList, ListRows, RowAt, ReadsRow, Finds};
 
-use wire::text::{Part, read_text};
-use std::cmp::Ordering;
+use image::field::LAST_WORD;
 use image::name::{Under, pass_under};
-use wire::cursor::{Cursor, place_at};
+use std::cmp::Ordering;
 use wire::number::read_number;
 use wire::order::compare_part;
+use wire::text::{Part, read_text};
 
 // Rows of a list: the place of the first, and how many there are.
 #[derive(Clone, Copy)]
@@ -29,15 +29,8 @@ pub fn rows_of(img: &[u8], list: Part, what: Under) -> Rows
     requires { IsList img.now what list }
     ensures { ListRows img.now what list result }
 {
-    let count = read_number(img, Cursor::At(list.start), 0xFFFF_FFFF);
-    let next = count.next;
-    match next {
-        Cursor::At(first) => Rows {
-            first,
-            count: count.value,
-        },
-        Cursor::Stop(_) => Rows { first: 0, count: 0 },
-    }
+    let (count, first) = read_number(img, list.start, LAST_WORD).unwrap();
+    Rows { first, count }
 }
 
 // The row at a place.
@@ -45,14 +38,13 @@ pub fn read_row(img: &[u8], at: usize, what: Under) -> RowRead
     requires { RowAt img.now what at }
     ensures { ReadsRow img.now what at result }
 {
-    let name = read_text(img, Cursor::At(at), 1, 255);
-    let named = name.next;
-    let end = pass_under(img, named, what);
+    let (name, under) = read_text(img, at, 1, 255).unwrap();
+    let next = pass_under(img, under, what).unwrap();
     RowRead {
         start: name.start,
         length: name.length,
-        under: place_at(named),
-        next: place_at(end),
+        under,
+        next,
     }
 }
 

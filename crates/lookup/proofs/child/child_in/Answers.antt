@@ -1,7 +1,7 @@
 use mathlib.Core.Path.{sym, ◌∙◌}
 use native.Mathlib.Nat.{sub-add-eq, sub-zero}
 use native.Mathlib.Omega.{arith}
-use Rattle.lookup.proofs.Searching.{row-there}
+use Rattle.lookup.proofs.Searching.{read-ok, row-there}
 use Rattle.lookup.proofs.Children.{above-start, above-decided, above-into, within_end, within_on, within-past, within-here, Passed, passed-on, passed-last}
 use Rattle.lookup.proofs.child.child_in.Goals as goal
 use Rattle.lookup.proofs.child.child_in.Goals.{Left-loop, else-loop-test, then-loop-test+in-Greater}
@@ -42,4 +42,7 @@ pub returns-in_default : goal.returns-in_default
 returns-in_default c = above-decided c.layers.invariant (rw c.in_default.is at c.entries_at-names.ensures)
 
 pub returns-in-Equal : goal.returns-in-Equal
-returns-in-Equal c = within-here c.loop.invariant (omega arith) c.read_row-row.ensures (sym c.compare_part.ensures ∙ c.in-Equal.is) c.read_number-inode.ensures
+returns-in-Equal c = within-here c.loop.invariant (omega arith) c.read_row-row.ensures (sym c.compare_part.ensures ∙ c.in-Equal.is) c.read_number.ensures c.unwrap-inode.ensures
+
+pub unwrap-inode-requires : goal.unwrap-inode-requires
+unwrap-inode-requires c = read-ok c.read_row-row.ensures.held c.read_number.ensures

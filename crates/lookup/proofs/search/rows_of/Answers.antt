@@ -1,8 +1,8 @@
-use Rattle.lookup.proofs.Searching.{rows-listed, rows-stopped}
+use Rattle.lookup.proofs.Searching.{rows-ok, rows-listed}
 use Rattle.lookup.proofs.search.rows_of.Goals as goal
 
-pub returns-in-At : goal.returns-in-At
-returns-in-At c = rows-listed c.requires.1 c.read_number-count.ensures c.in-At.is
+pub unwrap-count-requires : goal.unwrap-count-requires
+unwrap-count-requires c = rows-ok c.requires.1 c.read_number.ensures
 
-pub returns-in-Stop : goal.returns-in-Stop
-returns-in-Stop c = rows-stopped c.requires.1 c.read_number-count.ensures c.in-Stop.is
+pub returns : goal.returns
+returns c = rows-listed c.requires.1 c.read_number.ensures c.unwrap-count.ensures
