@@ -59,7 +59,12 @@ fn put_rest(buf: &mut [u8], at: usize, img: &[u8], flush: Flush) -> usize
 }
 
 // Measures the new image, and writes it to the target if there is room.
-pub fn write_flushed(img: &[u8], walk: Walk, flush: Flush, target: &mut [u8]) -> Result<usize, Refusal>
+pub fn write_flushed(
+    img: &[u8],
+    walk: Walk,
+    flush: Flush,
+    target: &mut [u8],
+) -> Result<usize, Refusal>
     requires { Few img.now walk }
     ensures { Changes (if_fits (flushed img.now walk flush) (length target.old)) target.old result target.new }
 {
