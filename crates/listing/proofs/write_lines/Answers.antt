@@ -3,8 +3,9 @@ use native.Mathlib.Omega.{arith}
 use Rattle.lines.proofs.Whole.{next-rows}
 use Rattle.listing.proofs.write_lines.Goals as goal
 
-pub loop-rest-init : goal.loop-rest-init
-loop-rest-init g c = (search rules, c.requires)
+pub loop-init : goal.loop-init
+loop-init g c = (search rules, (c.requires, omega arith))
 
-pub loop-rest-preserved : goal.loop-rest-preserved
-loop-rest-preserved g c = (search rules, next-rows c.loop-rest.invariant.1 (λ z. omega (arith, z, c.loop-rest-test.true)) c.put_next-next.ensures)
+pub loop-preserved : goal.loop-preserved
+loop-preserved g c =
+    (search rules, (next-rows c.loop.invariant.1.0 (λ z. omega (arith, z, c.loop.invariant.1.1)) c.put_next-next.ensures, omega (arith, c.loop.invariant.1.1, c.put_next-next.ensures.left)))
