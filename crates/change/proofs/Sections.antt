@@ -96,6 +96,9 @@ span-reads {img = img} c {q = q} {a} w f r = reads-got img (ap c.read w.is ∙ c
 pub value-is : {A E : Type 0} {o : Result A E} {x y : A} (d : A) → o ≡ Ok y → x ≡ result_unwrap_or o d → x ≡ y
 value-is d e z = z ∙ ap (λ o. result_unwrap_or o d) e
 
+pub value-ok : {A E : Type 0} {o : Result A E} {x y : A} (d : A) → o ≡ Ok y → x ≡ result_unwrap_or o d → o ≡ Ok x
+value-ok d e z = e ∙ ap Ok (sym (value-is d e z))
+
 -- what is passed where a construct was written, with these bytes after it
 pub record Past (img : List ℕ) (n : ℕ) (bytes : List ℕ) (t : List ℕ) (place : ℕ) : Type 0 where
   pub spans : Spans img n bytes place

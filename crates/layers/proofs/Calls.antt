@@ -38,7 +38,7 @@ abbrev bytes_if : List ℕ → Option Part → Text
 bytes_if img None = []
 bytes_if img (Some t) = text_at img t
 
-pub link-text : (img : List ℕ) (o : Result (Option Part) Refusal) → said (answered (text_of img) o) ≡ bytes_if img (result_unwrap_or o None)
-link-text img (Err f) = refl
-link-text img (Ok None) = refl
-link-text img (Ok (Some t)) = refl
+pub answered-text : (img : List ℕ) (o : Result (Option Part) Refusal) → said (answered (text_of img) o) ≡ bytes_if img (result_unwrap_or o None)
+answered-text img (Err f) = refl
+answered-text img (Ok None) = refl
+answered-text img (Ok (Some t)) = refl

@@ -1,6 +1,6 @@
 -- What a layer says, by what stands in it.
 -- Assumes nothing.
-use Rattle.std.specs.Prelude.{None, Option, Some}
+use Rattle.std.specs.Prelude.{Result, Ok, IsOk, None, Option, Some}
 use mathlib.Core.Path.{◌≡◌, refl, sym, ap, ◌∙◌, subst}
 use mathlib.Core.Logic.{⊎_elim}
 use mathlib.Core.List.{List}
@@ -9,12 +9,11 @@ use native.Mathlib.Omega.{arith}
 use lib.ListN.{get_or}
 use denote.Enum.Declared.{tag_of}
 use types.Run.{OneOf}
-use Rattle.wire.specs.declared.cursor.Cursor.{Cursor}
-use Rattle.wire.specs.declared.cursor.Cursor.TheVariants.{At}
+use Rattle.wire.specs.declared.fault.Fault.{Fault}
 use Rattle.wire.specs.Number.{edge, number_read, lt-or-ge}
 use Rattle.wire.specs.Orders.{by_bytes}
 use Rattle.wire.specs.Maps.{get, meet}
-use Rattle.wire.specs.Reading.{Answers}
+use Rattle.wire.specs.Reading.{Reads}
 use Rattle.survey.specs.declared.batch.InodeLayerStack.{InodeLayerStack}
 use Rattle.image.specs.declared.name.Under.TheVariants as U
 use Rattle.image.specs.Meaning.{Text, Body, Node, Change, Record, directory, file, symlink, special, tombstone, delta}
@@ -38,7 +37,7 @@ use Rattle.deltas.proofs.Others.{one-delta, one-kind, not_directory}
 use Rattle.stack.specs.Stacks.{Stacked, shown_under, shown, RecordIs, BaseIs, node_meant_if}
 use Rattle.stack.proofs.Walks.{shown-more, shown-base}
 use Rattle.lookup.specs.Search.{IsList, Finds}
-use Rattle.lookup.proofs.Searching.{held_none, held-some, read_same}
+use Rattle.lookup.proofs.Searching.{held_none, held-some, read-ok, read_same}
 use Rattle.trace.specs.Said.{entry_says, change_says, record_says, body_says, base_says, says, over, SaysList, says_at, SaysRecord, SaysBase, Speaks, SpeaksAt, Decides}
 use Rattle.trace.specs.declared.said.Said.{Said}
 use Rattle.trace.specs.declared.said.Said.TheVariants.{Nothing, NoChild, Child}
@@ -84,10 +83,14 @@ module _ (img : List ℕ) (list : Part) (name : Text) {place : Option ℕ} (f : 
   pub list-unnamed : place ≡ None → SaysList img list name Nothing
   list-unnamed y = rw (held_none img (under U.Inode).read (get by_bytes name (list_at img U.Inode list)) (rw y at f))
 
-  pub list-named : {p i : ℕ} {next : Cursor} → place ≡ Some p → Answers img (number_read edge) (At p) 0 i next → SaysList img list name (Child i)
-  list-named {p} y a =
-      let o = held-some img (under U.Inode).read p (get by_bytes name (list_at img U.Inode list)) (rw y at f) in
-      rw (o.2, read_same o.3 a.reads)
+  module _ {p : ℕ} (y : place ≡ Some p) {o : Result (ℕ × ℕ) Fault} (a : Reads img (number_read edge) p o) where
+    pub inode-ok : IsOk o
+    inode-ok = read-ok (held-some img (under U.Inode).read p (get by_bytes name (list_at img U.Inode list)) (rw y at f)).3 a
+
+    pub list-named : {i m : ℕ} → o ≡ Ok (i, m) → SaysList img list name (Child i)
+    list-named d =
+        let v = held-some img (under U.Inode).read p (get by_bytes name (list_at img U.Inode list)) (rw y at f) in
+        rw (v.2, read_same v.3 a d)
 
 -- ---- a record
 

@@ -9,11 +9,10 @@ use deltas::delta::{EntryDelta, NodeDelta};
 use image::name::Under;
 use lookup::search::find_name;
 use nodes::node::NodeKind;
-use wire::text::Part;
 use stack::stack::{base_node, record_at};
 use survey::batch::InodeLayerStack;
-use wire::cursor::Cursor;
 use wire::number::read_number;
+use wire::text::Part;
 
 // Nothing, so that the layers below are asked; that there is no such child; or its inode.
 #[derive(Clone, Copy)]
@@ -31,8 +30,8 @@ fn entry_in(img: &[u8], list: Part, name: &[u8]) -> Said
     let place = find_name(img, list, Under::Inode, name);
     match place {
         Some(at) => {
-            let inode = read_number(img, Cursor::At(at), 0xFFFF_FFFF_FFFF_FFFF);
-            Said::Child(inode.value)
+            let (inode, _) = read_number(img, at, u64::MAX).unwrap();
+            Said::Child(inode)
         }
         None => Said::Nothing,
     }

@@ -1,6 +1,6 @@
 -- A walk over the first layers of an image, one layer after the other.
 -- Assumes nothing.
-use Rattle.std.specs.Prelude.{None, Option, Some}
+use Rattle.std.specs.Prelude.{None, Option, Some, Result, Ok, Err}
 use mathlib.Core.Path.{◌≡◌, refl, sym, ap, ◌∙◌}
 use mathlib.Core.Bool.{Bool, true, false}
 use mathlib.Core.List.{List, [], ◌∷◌, ◌++◌, map, append_assoc, append-nil}
@@ -11,23 +11,23 @@ use lib.Dec.{ltb}
 use lib.ListN.{length, take, drop, get_or}
 use lib.Seq.{take-suc}
 use borrow.Author.Tests.{ltb-true, ltb-false}
-use Rattle.wire.specs.declared.cursor.Cursor.{Cursor}
-use Rattle.wire.specs.declared.cursor.Cursor.TheVariants.{At}
+use Rattle.std.specs.Result.{result_unwrap_or}
+use Rattle.wire.specs.declared.fault.Fault.{Fault}
 use Rattle.wire.specs.Combinators.{◌then◌}
-use Rattle.wire.specs.Number.{number_bytes, number_read, number-back, number_to}
+use Rattle.wire.specs.Number.{number_bytes, number_read, number-back}
 use Rattle.wire.specs.Orders.{by_number}
 use Rattle.wire.specs.Maps.{Map, empty}
 use Rattle.wire.specs.Lists.{Every, FitsRow, chain_write, row, onto, last_count}
-use Rattle.wire.specs.Reading.{Answers, Reads, place_at}
+use Rattle.wire.specs.Reading.{Reads, meant}
+use Rattle.wire.proofs.Readers.{handed}
 use Rattle.image.specs.Meaning.{Base, Layer, Batch, Store}
 use Rattle.image.specs.Fits.{FitsBatch, FitsStore}
 use Rattle.image.specs.FieldLayout.{inode, listed}
 use Rattle.image.specs.NodeLayout.{node}
 use Rattle.image.specs.RecordLayout.{layer_record, records}
-use Rattle.image.specs.StoreLayout.{batches}
 use Rattle.survey.specs.Gathering.{batch_head}
-use Rattle.passes.specs.Held.{HeldUnder, held}
-use Rattle.image.proofs.RoundTrip.{read_fits}
+use Rattle.passes.specs.Held.{HeldUnder, held, Finds}
+use Rattle.image.specs.Places.{Ends}
 use Rattle.passes.specs.declared.inode.Held.{Held}
 use Rattle.passes.specs.declared.inode.Held.TheVariants as H
 use Rattle.rules.specs.Stacks.{with_live, layers}
@@ -36,11 +36,14 @@ use Rattle.merge.specs.Pile.{Ascend}
 use Rattle.change.specs.Batches.{HeadParts}
 use Rattle.change.specs.Sections.{Spans, Stands}
 use Rattle.change.specs.declared.section.Sections.{Sections}
-use Rattle.change.proofs.Batches.{head_of, queue_bytes, batches-bytes}
-use Rattle.change.proofs.Sections.{span-front, span-back, span-both, span-reads, ends-past}
+use Rattle.change.proofs.Batches.{head_of, queue_bytes}
+use Rattle.change.proofs.Sections.{span-front, span-back, span-both, ends-past, value-is, value-ok, stands-fits}
+use Rattle.change.proofs.Queued.{stands-counted, stands-count, stands-queue}
+use Rattle.writers.specs.Batches.{head_meant}
+use Rattle.writers.specs.declared.batch.BatchHead.{BatchHead}
 use Rattle.walk.specs.Runs.{run_at, with_run, of_node, of_record, piece, Row, rows_read, list_rows, run_rows, ListOf}
 use Rattle.walk.specs.Walks.{walk_of, sources_under, Whole}
-use Rattle.walk.specs.Opens.{node_rows, record_rows, layers_on, lead, layer_bytes, layer_at, Starts, Ends, LayersOf, OpensLayers}
+use Rattle.walk.specs.Opens.{node_rows, record_rows, layers_on, lead, layer_bytes, layer_at, Starts, LayersOf, OpensLayers}
 use Rattle.walk.specs.declared.run.Run.{Run}
 use Rattle.walk.proofs.Running.{runs-length, run-set}
 use Rattle.walk.proofs.Stepping.{sources-set, layer-set}
@@ -159,47 +162,50 @@ module _ {img : List ℕ} {base : Run} (o : ListOf img H.Node 0 base) (old : Lis
       })
 
 -- where the records of a layer start
-starts-at : {img : List ℕ} (s : Store) (i : ℕ) {batches here q r : ℕ} → FitsStore s → batches ≡ length s.batches → Starts img here (ltb i batches) r
-    → Spans img here (lead s.batches i) q → r ≡ q
-starts-at {img} s i {batches} {here} {q} {r} f e t w = go (ltb i batches) refl t
+starts-at : {img : List ℕ} (s : Store) (i : ℕ) {batches here q : ℕ} {o : Result ℕ Fault} → FitsStore s → batches ≡ length s.batches → Starts img here (ltb i batches) o
+    → Spans img here (lead s.batches i) q → o ≡ Ok q
+starts-at {img} s i {batches} {here} {q} {o} f e t w = go (ltb i batches) refl t
   where
-    go : (b : Bool) → ltb i batches ≡ b → Starts img here b r → r ≡ q
+    go : (b : Bool) → ltb i batches ≡ b → Starts img here b o → o ≡ Ok q
     go true d t =
         let k = ltb-true i batches d in
         let l = lead-batch s.batches i f.batches.each (omega arith) in
-        let a = t.headed refl in
-        let z = span-reads batch_head {a = l.0} (rw l.1 at w) l.2 a.1 a.2 in
-        a.3 ∙ ap place_at z.1
+        let z = rw l.1 at w in
+        let p = ends-past batch_head {a = l.0} here (omega (arith, z.ends, z.within)) l.2 z.is (t.headed refl) in
+        let y : p.0 ≡ q = omega (arith, p.2.spans.ends, z.ends) in
+        p.1 ∙ ap Ok y
     go false d t =
         let k = ltb-false i batches d in
         let z = rw (lead-live s.batches i (omega arith)) at w in
-        omega (arith, t.plain refl, z.ends)
+        let y : here ≡ q = omega (arith, z.ends) in
+        t.plain refl ∙ ap Ok y
 
 module _ {img : List ℕ} {n batches first end top : ℕ} {runs : List ℕ} {i : ℕ} (g : Opening img n batches first end top runs i) (h : i < n) (k : n ≤ 17)
-    {at : ℕ} (t : Starts img end (ltb i batches) at) {run : Run} (l : ListOf img H.Record at run) {to : ℕ} (e : Ends img at to) where
+    {o : Result ℕ Fault} (t : Starts img end (ltb i batches) o) {at : ℕ} (ta : at ≡ result_unwrap_or o 0) {run : Run} (l : ListOf img H.Record at run)
+    {u : Result ℕ Fault} (e : Ends img records.read at u) {to : ℕ} (te : to ≡ result_unwrap_or u 0) where
   layer-opened : (s : Store) (tail : ℕ) → Given img s batches first n tail → LayersOf img s tail (suc i) (walk_of (with_run runs (suc i) run) (suc i)) at to
   layer-opened s tail v =
-      let u = g.opened s tail v in
+      let w = g.opened s tail v in
       let bs = s.batches in
       let x = layer_at s i in
       let many = v.many in
       let lt : i < length (layers s) = omega arith in
       let fits = layer_fits bs s.live i v.fits.batches.each (live-fits s v.fits) lt in
       let after = layer_bytes bs s.live (suc i) in
-      let whole : Spans img end (lead bs i ++ (records.write x ++ after)) tail = rw (layer-first bs s.live i lt) at u.rest in
-      let z : at ≡ end + length (lead bs i) = starts-at s i v.fits v.count t (span-front (lead bs i) (records.write x ++ after) whole) in
+      let whole : Spans img end (lead bs i ++ (records.write x ++ after)) tail = rw (layer-first bs s.live i lt) at w.rest in
+      let z : at ≡ end + length (lead bs i) = value-is 0 (starts-at s i v.fits v.count t (span-front (lead bs i) (records.write x ++ after) whole)) ta in
       let b : Spans img at (records.write x ++ after) tail = rw z (span-back (lead bs i) (records.write x ++ after) whole) in
       let d : drop at img ≡ records.write x ++ (after ++ drop tail img) = b.is ∙ append_assoc (records.write x) after (drop tail img) in
       let first = span-front (records.write x) after b in
-      let p = ends-past records {a = x} at e.next (omega (arith, first.within)) fits d e.ends in
-      let y : to ≡ at + length (records.write x) = e.place ∙ p.spans.ends in
+      let p = ends-past records {a = x} at (omega (arith, first.within)) fits d e in
+      let y : to ≡ at + length (records.write x) = value-is 0 p.1 te ∙ p.2.spans.ends in
       let rows : run_rows img H.Record run ≡ record_rows x = l.are ∙ rw d (list-are H.Record x (after ++ drop tail img) fits) in
       let are : sources_under img (with_run runs (suc i) run) (suc i) ≡ layers_on (take (suc i) (layers s)) (node_rows s.base ∷ []) =
-      sources-set img runs i run (omega arith) g.wide ∙ rw (rows, u.over.are, take-suc (layers s) i (empty by_number) lt, layers-snoc) in
+      sources-set img runs i run (omega arith) g.wide ∙ rw (rows, w.over.are, take-suc (layers s) i (empty by_number) lt, layers-snoc) in
       record {
         over = record {
           ready = record {
-            whole = layer-set u.over.ready.whole (omega arith) l.sound (suc i) (omega arith) (λ j m d. omega arith);
+            whole = layer-set w.over.ready.whole (omega arith) l.sound (suc i) (omega arith) (λ j m d. omega arith);
             ascend = rw are (over-ascend s.base (take (suc i) (layers s)));
           };
           are = are;
@@ -216,35 +222,54 @@ unfolding layer_bytes queue_bytes
 layers-start [] live = refl
 layers-start (b ∷ bs) live = refl
 
-module _ {img : List ℕ} {n count : ℕ} {first : Cursor} {p : Sections} (a : Answers img (number_read 16) (At p.batches) 0 count first) where
-  given : {s : Store} → Stands img p s → n ≤ length (layers s) → Given img s count (place_at first) n p.tail
-  unfolding node batches
+module _ {img : List ℕ} {n : ℕ} {p : Sections} {o : Result (ℕ × ℕ) Fault} (a : Reads img (number_read 16) p.batches o) {x : ℕ × ℕ} (z : x ≡ result_unwrap_or o (0, 0)) where
+  given : {s : Store} → Stands img p s → n ≤ length (layers s) → Given img s x.0 x.1 n p.tail
+  unfolding node
   given {s} w m =
-      let fits = read_fits img s w.is in
-      let nb = number_bytes (length s.batches) in
-      let b : Spans img p.batches (nb ++ queue_bytes s.batches) p.live = rw (batches-bytes s.batches) at w.batches in
-      let r = span-reads (number_to 16 refl) {a = length s.batches} (span-front nb (queue_bytes s.batches) b) fits.batches.count first a.reads in
-      let z : place_at first ≡ p.batches + length nb = ap place_at r.1 in
+      let d = value-ok (0, 0) (stands-counted w a) z in
       record {
-        fits = fits;
-        nodes = ap (list_rows H.Node) w.base.is ∙ list-are H.Node s.base (drop p.batches img) fits.base;
-        count = r.0;
-        stands = rw (z, layers-start) (span-both (span-back nb (queue_bytes s.batches) b) w.live);
+        fits = stands-fits w;
+        nodes = ap (list_rows H.Node) w.base.is ∙ list-are H.Node s.base (drop p.batches img) (stands-fits w).base;
+        count = stands-count w a d;
+        stands = rw (layers-start) (span-both (stands-queue w a d) w.live);
         many = m;
       }
 
-  pub opening-all : {f : ℕ} {end top : ℕ} {runs : List ℕ} {i : ℕ} → f ≡ place_at first → Opening img n count f end top runs i → n ≤ i
+  pub opening-all : {end top : ℕ} {runs : List ℕ} {i : ℕ} → Opening img n x.0 x.1 end top runs i → n ≤ i
       → OpensLayers img p n (record { walk = walk_of runs n; top = top; end = end })
-  opening-all {i = i} e g h =
+  opening-all {i = i} g h =
       let low = g.low in
-      let z : i ≡ n = omega arith in
-      record { opens = λ s w m. rw z at (g.opened s p.tail (rw e (given w m))) }
+      let y : i ≡ n = omega arith in
+      record { opens = λ s w m. rw y at (g.opened s p.tail (given w m)) }
 
 -- ---- where the records of a layer start
 
 module _ {img : List ℕ} {here : ℕ} {batch : Bool} where
-  pub starts-head : batch ≡ true → {h : HeadParts} {c : Cursor} {r : ℕ} → Reads img batch_head.read (At here) h c → r ≡ place_at c → Starts img here batch r
-  starts-head b {h} {c} d e = record { headed = λ z. (h, c, d, e); plain = λ z. absurd (let y : ◌≡◌ {A = ℕ} 0 1 = cc in omega arith) }
+  pub starts-head : batch ≡ true → {o : Result (BatchHead × ℕ) Fault} {h : BatchHead} {q : ℕ} → Reads img batch_head.read here (meant head_meant o) → o ≡ Ok (h, q)
+      → Starts img here batch (Ok q)
+  starts-head b d e =
+      let g = rw e at d in
+      record { headed = λ z. record { same = rw (g.same); within = g.within }; plain = λ z. absurd (let y : ◌≡◌ {A = ℕ} 0 1 = cc in omega arith) }
 
-  pub starts-plain : batch ≡ false → Starts img here batch here
+  pub starts-stop : batch ≡ true → {o : Result (BatchHead × ℕ) Fault} {f : Fault} {r : Result ℕ Fault} → Reads img batch_head.read here (meant head_meant o) → o ≡ Err f → r ≡ Err f
+      → Starts img here batch r
+  starts-stop b d e c =
+      let g = rw e at d in
+      rw c (record { headed = λ z. record { same = rw (g.same); within = tt }; plain = λ z. absurd (let y : ◌≡◌ {A = ℕ} 0 1 = cc in omega arith) })
+
+  pub starts-plain : batch ≡ false → Starts img here batch (Ok here)
   starts-plain b = record { headed = λ z. absurd (let y : ◌≡◌ {A = ℕ} 0 1 = cc in omega arith); plain = λ z. refl }
+
+pub ruleset starts = (starts-head, starts-stop, starts-plain, handed)
+
+-- where a list of records ends
+module _ {img : List ℕ} {at : ℕ} {o : Result (Option ℕ × ℕ) Fault} (f : Finds img H.Record 0 at o) where
+  pub list-ends : {place : Option ℕ} {q : ℕ} → o ≡ Ok (place, q) → Ends img records.read at (Ok q)
+  unfolding layer_record
+  list-ends d = let g = rw d at f in g.ends
+
+  pub list-endless : {y : Fault} {r : Result ℕ Fault} → o ≡ Err y → r ≡ Err y → Ends img records.read at r
+  unfolding layer_record
+  list-endless d e = let g = rw d at f in rw e (g.ends)
+
+pub ruleset list_ends = (list-ends, list-endless, handed)

@@ -1,6 +1,6 @@
 -- How a run is read in the image, row by row, and moved past an inode.
 -- Assumes nothing.
-use Rattle.std.specs.Prelude.{None, Option, Some}
+use Rattle.std.specs.Prelude.{None, Option, Some, Result, Ok, Err}
 use mathlib.Core.Path.{◌≡◌, refl, sym, ◌∙◌}
 use mathlib.Core.Bool.{Bool, true, false}
 use mathlib.Core.List.{List, [], ◌∷◌}
@@ -10,18 +10,16 @@ use lib.Dec.{eqb}
 use lib.ListN.{length, drop, get_or, set, length-set}
 use lib.Seq.{get_or-set_same, get_or-set_other}
 use borrow.Author.Tests.{eqb-true, eqb-false}
-use Rattle.wire.specs.declared.cursor.Fault.{Fault}
-use Rattle.wire.specs.declared.cursor.Cursor.{Cursor}
-use Rattle.wire.specs.declared.cursor.Cursor.TheVariants.{At, Stop}
+use Rattle.wire.specs.declared.fault.Fault.{Fault}
 use Rattle.std.specs.declared.cmp.Ordering.{Ordering}
 use Rattle.std.specs.declared.cmp.Ordering.TheVariants.{Less, Equal, Greater}
-use Rattle.wire.specs.Parse.{fault, got, never-got}
+use Rattle.wire.specs.Parse.{got}
 use Rattle.wire.specs.Combinators.{◌then◌}
 use Rattle.wire.specs.Number.{edge, number_read}
 use Rattle.wire.specs.Orders.{by_number, cmp_n, same-N}
 use Rattle.wire.specs.Rows.{choose}
 use Rattle.wire.specs.Lists.{last_count}
-use Rattle.wire.specs.Reading.{Answers, place_at}
+use Rattle.wire.specs.Reading.{Reads}
 use Rattle.image.specs.FieldLayout.{inode}
 use Rattle.passes.specs.Held.{HeldUnder, held}
 use Rattle.image.specs.Places.{Ends, if_read}
@@ -125,45 +123,36 @@ module _ {img : List ℕ} {h : Held} {n p : ℕ} {r : Run} where
   unfolding rows_read
   from-none e d = record { are = rw (e, d.none_left); sound = ended-sound d }
 
-module _ (img : List ℕ) (h : Held) (p i : ℕ) where
-  row-stop : (start : Cursor) {f : Fault} → Answers img (number_read edge) (At p) 0 i start → Ends img (held h).read start (Stop f)
-      → (g : Fault) × ((inode then held h).read (drop p img) ≡ fault g)
-  row-stop (At m) {f} a v = (f, rw (a.reads.same, ends-fault v))
-  row-stop (Stop g) a v = (g, rw a.reads.same)
+row-at : {img : List ℕ} {h : Held} {n p i m q : ℕ} {a : HeldUnder h} → (n ≡ 0 → ⊥) → Reads img (number_read edge) p (Ok (i, m)) → (held h).read (drop m img) ≡ got a (drop q img)
+    → RowsOf img h n p (record { inode = i; place = m; next = q; left = n })
+row-at {img} {h} {n} {p} {i} {m} {q} {a} k g e = record {
+  are = run-first img h (record { inode = i; place = m; next = q; left = n }) k e ∙ rw (rows-first h n (drop p img) k, g.same, e);
+  sound = record { reads = λ l. (a, e) };
+}
 
-  record RowAt (start : Cursor) (q : ℕ) : Type 0 where
-    value : HeldUnder h
-    under : (held h).read (drop (place_at start) img) ≡ got value (drop q img)
-    whole : (inode then held h).read (drop p img) ≡ got (i, value) (drop q img)
+module _ {img : List ℕ} {h : Held} {n p : ℕ} (k : n ≡ 0 → ⊥) {o : Result (ℕ × ℕ) Fault} (a : Reads img (number_read edge) p o) where
+  pub from-unread : {f : Fault} {r : Run} → o ≡ Err f → Ended r → RowsOf img h n p r
+  from-unread d e = let g = rw d at a in record { are = rw (e.none_left, rows-first h n (drop p img) k, g.same); sound = ended-sound e }
 
-  row_read : (start : Cursor) {q : ℕ} → Answers img (number_read edge) (At p) 0 i start → Ends img (held h).read start (At q) → RowAt start q
-  row_read (At m) a v = let e = ends-got v in record { value = e.0; under = e.1; whole = rw (a.reads.same, e.1) }
-  row_read (Stop g) a v = never-got v.same
+  module _ {i m : ℕ} (d : o ≡ Ok (i, m)) {u : Result ℕ Fault} (v : Ends img (held h).read m u) where
+    pub from-stop : {f : Fault} {r : Run} → u ≡ Err f → Ended r → RowsOf img h n p r
+    from-stop c e =
+        let g = rw d at a in
+        record { are = rw (e.none_left, rows-first h n (drop p img) k, g.same, ends-fault (rw c at v)); sound = ended-sound e }
 
-module _ {img : List ℕ} {h : Held} {n p i : ℕ} (k : n ≡ 0 → ⊥) {start next : Cursor} (a : Answers img (number_read edge) (At p) 0 i start)
-    (v : Ends img (held h).read start next) where
-  pub from-stop : {f : Fault} {r : Run} → next ≡ Stop f → Ended r → RowsOf img h n p r
-  from-stop e d =
-      let z = row-stop img h p i start a (rw e at v) in
-      record { are = rw (d.none_left, rows-first h n (drop p img) k, z.1); sound = ended-sound d }
-
-  pub from_row : {q m : ℕ} → next ≡ At q → m ≡ place_at start → RowsOf img h n p (record { inode = i; place = m; next = q; left = n })
-  from_row {q} {m} e d =
-      let z = row_read img h p i start a (rw e at v) in
-      let u : (held h).read (drop m img) ≡ got z.value (drop q img) = rw d z.under in
-      record {
-        are = run-first img h (record { inode = i; place = m; next = q; left = n }) k u ∙ rw (rows-first h n (drop p img) k, z.whole);
-        sound = record { reads = λ l. (z.value, u) };
-      }
+    pub from_row : {q : ℕ} → u ≡ Ok q → RowsOf img h n p (record { inode = i; place = m; next = q; left = n })
+    from_row c = row-at k (rw d at a) (ends-got (rw c at v)).1
 
 -- ---- a list, its count first
 
-module _ {img : List ℕ} {h : Held} {n p : ℕ} {next : Cursor} {r : Run} (a : Answers img (number_read last_count) (At p) 0 n next) where
-  pub list-stop : {f : Fault} → next ≡ Stop f → Ended r → ListOf img h p r
-  list-stop e d = let z = rw e at a.reads.same in record { are = rw (z, d.none_left); sound = ended-sound d }
+module _ {img : List ℕ} {h : Held} {p : ℕ} {o : Result (ℕ × ℕ) Fault} {r : Run} (a : Reads img (number_read last_count) p o) where
+  pub list-stop : {f : Fault} → o ≡ Err f → Ended r → ListOf img h p r
+  list-stop d e = let g = rw d at a in record { are = rw (g.same, e.none_left); sound = ended-sound e }
 
-  pub list-rows : {q : ℕ} → next ≡ At q → RowsOf img h n q r → ListOf img h p r
-  list-rows e d = let z = rw e at a.reads.same in record { are = d.are ∙ rw z; sound = d.sound }
+  pub list-rows : {n q : ℕ} → o ≡ Ok (n, q) → RowsOf img h n q r → ListOf img h p r
+  list-rows d e = let g = rw d at a in record { are = e.are ∙ rw (g.same); sound = e.sound }
+
+pub ruleset runs = (from-none, from-unread, from-stop, from_row, list-stop, list-rows)
 
 -- ---- whether a run is at an inode
 

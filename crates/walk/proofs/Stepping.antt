@@ -1,6 +1,6 @@
 -- A step of a walk: the least inode, its stack, and the walk past it.
 -- Assumes nothing.
-use Rattle.std.specs.Prelude.{None, Option, Some}
+use Rattle.std.specs.Prelude.{None, Option, Some, is_some, unwrap_or}
 use mathlib.Core.Path.{◌≡◌, refl, sym, ap, ◌∙◌}
 use mathlib.Core.Bool.{Bool, true, false}
 use mathlib.Core.List.{List, [], ◌∷◌, ◌++◌, append-nil}
@@ -26,10 +26,9 @@ use Rattle.stack.specs.Stacks.{AllRead, NodeRead}
 use Rattle.merge.specs.Pile.{first_key, pick_key, lower, least_key, head_if, pass_all, answer}
 use Rattle.merge.proofs.Piles.{pile-step, pile-end, ascend-pass}
 use Rattle.walk.specs.Runs.{run_at, with_run, Piece, Row, rows_left, run_rows, Sound, RowsOf, Has}
-use Rattle.walk.specs.Walks.{Pieces, or_nothing, laying, top_of, walk_of, sources_under, sources_of, stacks_left, pieces_in, Whole, Ready, key_if, key_of, Lower, Least, NodeEnds, Taken, stacks_if, Steps}
+use Rattle.walk.specs.Walks.{Pieces, or_nothing, laying, top_of, walk_of, sources_under, sources_of, stacks_left, pieces_in, Whole, Ready, key_of, Lower, Least, NodeEnds, Taken, stacks_if, Steps}
 use Rattle.walk.specs.declared.run.Run.{Run}
 use Rattle.walk.specs.declared.walk.Walk.{Walk}
-use Rattle.walk.specs.declared.walk.First.{First}
 use Rattle.walk.specs.declared.walk.Step.{Step}
 use Rattle.walk.proofs.Running.{EndsAt, runs-length, run-set, run-kept, piece_at, ReadAt, Moved, moved_here, moved_other, has-head}
 
@@ -42,24 +41,26 @@ key-first r n = go r.left n
     go zero n = absurd (n refl)
     go (suc m) n = refl
 
-module _ {best : First} {r : Run} where
+module _ {best : Option ℕ} {r : Run} where
   pub lower-none : r.left ≡ 0 → Lower best r best
   lower-none e = record { is = rw e }
 
   module _ (n : r.left ≡ 0 → ⊥) where
-    pub lower-kept : best.found ≡ true → best.inode < r.inode → Lower best r best
-    lower-kept e l = record { is = rw (key-first r n, e, greater-N r.inode best.inode l) }
+    pub lower-kept : {k : ℕ} → best ≡ Some k → k < r.inode → Lower best r best
+    lower-kept {k} e l = record { is = rw (key-first r n, e, greater-N r.inode k l) }
 
-    pub lower-taken : best.found ≡ true → r.inode ≤ best.inode → Lower best r (record { found = true; inode = r.inode })
-    lower-taken e l = record { is = rw (key-first r n, e) (go (cmp_n r.inode best.inode) (says r.inode best.inode)) }
+    pub lower-taken : {k : ℕ} → best ≡ Some k → r.inode ≤ k → Lower best r (Some r.inode)
+    lower-taken {k} e l = record { is = rw (key-first r n, e) (go (cmp_n r.inode k) (says r.inode k)) }
       where
-        go : (o : Ordering) → Says r.inode best.inode o → Some r.inode ≡ pick_key by_number o r.inode best.inode
+        go : (o : Ordering) → Says r.inode k o → Some r.inode ≡ pick_key by_number o r.inode k
         go Less s = refl
         go Equal s = refl
         go Greater s = absurd (omega arith)
 
-    pub lower-first : best.found ≡ false → Lower best r (record { found = true; inode = r.inode })
+    pub lower-first : best ≡ None → Lower best r (Some r.inode)
     lower-first e = record { is = rw (key-first r n, e) }
+
+pub ruleset lowers = (lower-none, lower-kept, lower-taken, lower-first)
 
 -- ---- the rows of runs in an array
 
@@ -83,17 +84,17 @@ first_key_lem img h r s = go r.left refl
     go zero e = refl
     go (suc m) e = rw (s.reads (λ z. absurd (omega arith))).1
 
-pub record Leasting (l : List ℕ) (n i : ℕ) (best : First) : Type 0 where
+pub record Leasting (l : List ℕ) (n i : ℕ) (best : Option ℕ) : Type 0 where
   pub low : i ≤ n
-  pub is : (img : List ℕ) → Whole img (walk_of l n) → least_key by_number (sources_under img l i) ≡ key_if best.found best.inode
+  pub is : (img : List ℕ) → Whole img (walk_of l n) → least_key by_number (sources_under img l i) ≡ best
 
 module _ {l : List ℕ} {n : ℕ} where
-  pub leasting-start : {m : ℕ} {r : Run} {best : First} → r ≡ run_at l 0 → Lower (record { found = false; inode = m }) r best → Leasting l n 0 best
+  pub leasting-start : {r : Run} {best : Option ℕ} → r ≡ run_at l 0 → Lower None r best → Leasting l n 0 best
   unfolding least_key sources_under
   leasting-start e o = record { low = omega arith; is = λ img h. rw (first_key_lem img H.Node (run_at l 0) h.base) (sym (rw e at o.is)) }
 
-  module _ {i : ℕ} {best : First} (g : Leasting l n i best) where
-    pub leasting-more : i < n → {r : Run} {out : First} → r ≡ run_at l (i + 1) → Lower best r out → Leasting l n (i + 1) out
+  module _ {i : ℕ} {best : Option ℕ} (g : Leasting l n i best) where
+    pub leasting-more : i < n → {r : Run} {out : Option ℕ} → r ≡ run_at l (i + 1) → Lower best r out → Leasting l n (i + 1) out
     unfolding least_key sources_under
     leasting-more h e o = record {
       low = omega arith;
@@ -285,20 +286,24 @@ answered ((u ∷ s) ∷ ss) k h = go (least_key by_number ss) refl h (answered s
         choice Equal h = here h
         choice Greater h = let z : b ≡ k = cc in below (head_if by_number k (u ∷ s)) (ih k (e ∙ ap Some z))
 
-pub stepped : {img : List ℕ} {w : Walk} → Ready img w → {best : First} → Least w best → {r : Step} {rest : Walk} → Taken img w best.inode r rest
-    → Steps img w (record { more = best.found; inode = r.inode; top = r.top; stack = r.stack; end = r.end }) rest
-stepped {img} {w} g {best} l {r} {rest} t = record {
-  stacks = go best.found least;
+pub stepped : {img : List ℕ} {w : Walk} → Ready img w → {best : Option ℕ} → Least w best → {k : ℕ} → k ≡ unwrap_or best 0 → {r : Step} {rest : Walk} → Taken img w k r rest → {b : Bool} → b ≡ is_some best
+    → Steps img w (record { more = b; inode = r.inode; top = r.top; stack = r.stack; end = r.end }) rest
+stepped {img} {w} g {best} l {k} z {r} {rest} t e = rw e (record {
+  stacks = go best least z;
   taken = record { inode = refl; rest = rw t.inode t.rest; whole = t.whole; stacked = t.stacked; ends = t.ends; pieces = rw t.inode t.pieces; top = rw t.inode t.top };
-  ready = record { whole = t.whole; ascend = rw t.rest (ascend-pass by_number best.inode (sources_of img w) g.ascend) };
-  ended = λ e. least ∙ rw e;
-}
+  ready = record { whole = t.whole; ascend = rw t.rest (ascend-pass by_number k (sources_of img w) g.ascend) };
+  ended = λ e. least ∙ none best e;
+})
   where
-    least : least_key by_number (sources_of img w) ≡ key_if best.found best.inode
+    least : least_key by_number (sources_of img w) ≡ best
     least = l.is img g.whole
 
-    go : (b : Bool) → least_key by_number (sources_of img w) ≡ key_if b best.inode → stacks_left img w ≡ stacks_if b (r.inode, pieces_in img r.stack) (stacks_left img rest)
-    go true e =
-        pile-step by_number laying (sources_of img w) g.ascend best.inode e
-        ∙ rw (answered (sources_of img w) best.inode e, t.rest, t.inode, t.pieces)
-    go false e = pile-end by_number laying (sources_of img w) e
+    none : (o : Option ℕ) → is_some o ≡ false → o ≡ None
+    none None e = refl
+    none (Some j) e = absurd (let y : ◌≡◌ {A = ℕ} 0 1 = cc in omega arith)
+
+    go : (o : Option ℕ) → least_key by_number (sources_of img w) ≡ o → k ≡ unwrap_or o 0 → stacks_left img w ≡ stacks_if (is_some o) (r.inode, pieces_in img r.stack) (stacks_left img rest)
+    go (Some j) e z =
+        pile-step by_number laying (sources_of img w) g.ascend j e
+        ∙ rw (answered (sources_of img w) j e, t.rest, t.inode, t.pieces, z)
+    go None e z = pile-end by_number laying (sources_of img w) e

@@ -1,17 +1,14 @@
 -- A walk over the base and the first layers of an image that may be used.
-use Rattle.std.specs.Prelude.{◌≡◌, Bool, true, false, List, [], ◌∷◌, ◌++◌, map, ℕ, zero, suc, ◌-◌, ◌≤◌, ◌<◌, length, take, get_or}
-use Rattle.wire.specs.declared.cursor.Cursor.{Cursor}
-use Rattle.wire.specs.declared.cursor.Cursor.TheVariants as C
+use Rattle.std.specs.Prelude.{◌≡◌, Bool, true, false, List, [], ◌∷◌, ◌++◌, map, ℕ, zero, suc, ◌-◌, ◌≤◌, ◌<◌, length, take, get_or, Result, Ok}
+use Rattle.wire.specs.declared.fault.Fault.{Fault}
 use Rattle.wire.specs.Orders.{by_number}
 use Rattle.wire.specs.Maps.{empty}
-use Rattle.wire.specs.Reading.{Reads, place_at}
 use Rattle.image.specs.Meaning.{Base, Layer, Batch, Store}
 use Rattle.image.specs.RecordLayout.{records}
 use Rattle.survey.specs.Gathering.{batch_head}
-use Rattle.image.specs.Places as Places
+use Rattle.image.specs.Places.{Ends}
 use Rattle.rules.specs.Stacks.{layers}
 use Rattle.rules.proofs.MapValues.{map_row}
-use Rattle.change.specs.Batches.{HeadParts}
 use Rattle.change.specs.Sections.{Spans, Stands}
 use Rattle.change.specs.declared.section.Sections.{Sections}
 use Rattle.change.proofs.Batches.{head_of, queue_bytes}
@@ -58,14 +55,9 @@ layer_at s i = get_or (layers s) i (empty by_number)
 
 -- ---- what is promised
 
-pub record Starts (img : List ℕ) (here : ℕ) (batch : Bool) (r : ℕ) : Type 0 where
-  pub headed : batch ≡ true → (h : HeadParts) × (c : Cursor) × Reads img batch_head.read (C.At here) h c × (r ≡ place_at c)
-  pub plain : batch ≡ false → r ≡ here
-
-pub record Ends (img : List ℕ) (at r : ℕ) : Type 0 where
-  pub next : Cursor
-  pub ends : Places.Ends img records.read (C.At at) next
-  pub place : r ≡ place_at next
+pub record Starts (img : List ℕ) (here : ℕ) (batch : Bool) (r : Result ℕ Fault) : Type 0 where
+  pub headed : batch ≡ true → Ends img batch_head.read here r
+  pub plain : batch ≡ false → r ≡ Ok here
 
 -- over the first n layers of a store: the topmost is from `top` to `end`, and the others follow
 pub record LayersOf (img : List ℕ) (s : Store) (tail n : ℕ) (w : Walk) (from to : ℕ) : Type 0 where

@@ -14,7 +14,6 @@ use Rattle.merge.specs.Pile.{lower, least_key, head_if, pass_all, Ascend, pile, 
 use Rattle.walk.specs.Runs.{Piece, of_node, of_record, Row, run_at, run_rows, Sound}
 use Rattle.walk.specs.declared.run.Run.{Run}
 use Rattle.walk.specs.declared.walk.Walk.{Walk}
-use Rattle.walk.specs.declared.walk.First.{First}
 use Rattle.walk.specs.declared.walk.Step.{Step}
 
 -- ---- the stacks of runs, which stand topmost first
@@ -77,19 +76,15 @@ pub record Ready (img : List ℕ) (w : Walk) : Type 0 where
 
 -- ---- a step
 
-abbrev pub key_if : Bool → ℕ → Option ℕ
-key_if true k = Some k
-key_if false k = None
-
 abbrev pub key_of : Run → ℕ → Option ℕ
 key_of r zero = None
 key_of r (suc n) = Some r.inode
 
-pub record Lower (best : First) (r : Run) (out : First) : Type 0 where
-  pub is : key_if out.found out.inode ≡ lower by_number (key_of r r.left) (key_if best.found best.inode)
+pub record Lower (best : Option ℕ) (r : Run) (out : Option ℕ) : Type 0 where
+  pub is : out ≡ lower by_number (key_of r r.left) best
 
-pub record Least (w : Walk) (r : First) : Type 0 where
-  pub is : (img : List ℕ) → Whole img w → least_key by_number (sources_of img w) ≡ key_if r.found r.inode
+pub record Least (w : Walk) (r : Option ℕ) : Type 0 where
+  pub is : (img : List ℕ) → Whole img w → least_key by_number (sources_of img w) ≡ r
 
 -- the node at a place ends there; no place, no node
 abbrev pub NodeEnds : List ℕ → Option ℕ → ℕ → Type 0

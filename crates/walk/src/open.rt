@@ -1,12 +1,14 @@
 // A walk over the base and the first layers of an image.
 ghost use Rattle.std.specs.Prelude.{◌≤◌};
-ghost use Rattle.walk.specs.Opens.{Starts, Ends, OpensLayers};
+ghost use Rattle.image.specs.Places.{Ends};
+ghost use Rattle.image.specs.RecordLayout.{records};
+ghost use Rattle.walk.specs.Opens.{Starts, OpensLayers};
 
 use crate::run::{run_at, set_run};
 use crate::walk::Walk;
 use change::section::Sections;
 use passes::inode::{Held, find_inode};
-use wire::cursor::{Cursor, place_at};
+use wire::fault::Fault;
 use wire::number::read_number;
 use writers::batch::read_batch_head;
 
@@ -19,24 +21,24 @@ pub struct Layers {
 }
 
 // Where the records of a layer start: after its head, if it is a batch.
-fn records_of(img: &[u8], here: usize, batch: bool) -> usize
+#[tactic(auto, using(crate::proofs::Opening::starts))]
+fn records_of(img: &[u8], here: usize, batch: bool) -> Result<usize, Fault>
     ensures { Starts img.now here batch result }
 {
     if batch {
-        let read = read_batch_head(img, Cursor::At(here));
-        let next = read.next;
-        return place_at(next);
+        let (_, records) = read_batch_head(img, here)?;
+        return Ok(records);
     }
-    here
+    Ok(here)
 }
 
 // Where the list of records at `at` ends.
-fn records_end(img: &[u8], at: usize) -> usize
-    ensures { Ends img.now at result }
+#[tactic(auto, using(crate::proofs::Opening::list_ends))]
+fn records_end(img: &[u8], at: usize) -> Result<usize, Fault>
+    ensures { Ends img.now records.read at result }
 {
-    let found = find_inode(img, Cursor::At(at), Held::Record, 0);
-    let next = found.next;
-    place_at(next)
+    let (_, end) = find_inode(img, at, Held::Record, 0)?;
+    Ok(end)
 }
 
 // A walk over the base and the first `n` layers: the batches, front first, and then live.
@@ -44,17 +46,15 @@ pub fn open_layers(img: &[u8], sections: Sections, n: u64) -> Layers
     requires { n ≤ 17 }
     ensures { OpensLayers img.now sections n result }
 {
-    let count = read_number(img, Cursor::At(sections.batches), 16);
-    let batches = count.value;
-    let first = count.next;
-    let mut end = place_at(first);
+    let (batches, first) = read_number(img, sections.batches, 16).unwrap_or((0, 0));
+    let mut end = first;
     let mut top = end;
     let mut runs = [0u64; 72];
     set_run(&mut runs, 0, run_at(img, 0, Held::Node));
     for i in 0..n {
-        top = records_of(img, end, i < batches);
+        top = records_of(img, end, i < batches).unwrap_or(0);
         set_run(&mut runs, i as usize + 1, run_at(img, top, Held::Record));
-        end = records_end(img, top);
+        end = records_end(img, top).unwrap_or(0);
     }
     let walk = Walk {
         runs,

@@ -4,10 +4,11 @@ ghost use Rattle.passes.specs.Held.{held};
 ghost use Rattle.image.specs.Places.{Ends};
 ghost use Rattle.walk.specs.Runs.{run_at, with_run, Ended, RowsOf, ListOf, Has};
 
+use image::field::LAST_WORD;
 use passes::inode::Held;
 use passes::node::pass_node;
 use passes::record::pass_record;
-use wire::cursor::{Cursor, place_at};
+use wire::fault::Fault;
 use wire::number::read_number;
 
 // A list by inode, at the first of the rows that are left: its inode, the place of what stands under it, and the place after that.
@@ -59,7 +60,7 @@ fn no_run() -> Run
 }
 
 // Passes what stands under an inode.
-fn pass_under_inode(img: &[u8], at: Cursor, what: Held) -> Cursor
+fn pass_under_inode(img: &[u8], at: usize, what: Held) -> Result<usize, Fault>
     ensures { Ends img.now (held what).read at result }
 {
     match what {
@@ -69,36 +70,36 @@ fn pass_under_inode(img: &[u8], at: Cursor, what: Held) -> Cursor
 }
 
 // The run at the first of the `left` rows from `at` on.
+#[tactic(auto, using(crate::proofs::Running::runs))]
 pub fn run_from(img: &[u8], at: usize, left: u64, what: Held) -> Run
     ensures { RowsOf img.now what left at result }
 {
     if left == 0 {
         return no_run();
     }
-    let inode = read_number(img, Cursor::At(at), 0xFFFF_FFFF_FFFF_FFFF);
-    let start = inode.next;
-    let end = pass_under_inode(img, start, what);
-    match end {
-        Cursor::At(next) => Run {
-            inode: inode.value,
-            place: place_at(start),
-            next,
-            left,
-        },
-        Cursor::Stop(_) => no_run(),
+    let Ok((inode, place)) = read_number(img, at, u64::MAX) else {
+        return no_run();
+    };
+    let Ok(next) = pass_under_inode(img, place, what) else {
+        return no_run();
+    };
+    Run {
+        inode,
+        place,
+        next,
+        left,
     }
 }
 
 // The run at the first row of the list at `at`, its count first.
+#[tactic(auto, using(crate::proofs::Running::runs))]
 pub fn run_at(img: &[u8], at: usize, what: Held) -> Run
     ensures { ListOf img.now what at result }
 {
-    let count = read_number(img, Cursor::At(at), 0xFFFF_FFFF);
-    let next = count.next;
-    match next {
-        Cursor::At(first) => run_from(img, first, count.value, what),
-        Cursor::Stop(_) => no_run(),
-    }
+    let Ok((count, first)) = read_number(img, at, LAST_WORD) else {
+        return no_run();
+    };
+    run_from(img, first, count, what)
 }
 
 // Whether a run is at an inode.

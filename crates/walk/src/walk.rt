@@ -23,42 +23,32 @@ pub struct Step {
     pub end: usize,
 }
 
-// An inode, if there is one.
-#[derive(Clone, Copy)]
-pub struct First {
-    pub found: bool,
-    pub inode: u64,
-}
-
 // The lesser of the least inode so far and that of one run more.
-fn lower(best: First, run: Run) -> First
+#[tactic(auto, using(crate::proofs::Stepping::lowers))]
+fn lower(best: Option<u64>, run: Run) -> Option<u64>
     ensures { Lower best run result }
 {
     if run.left == 0 {
         return best;
     }
-    if best.found {
-        if best.inode < run.inode {
-            return best;
+    match best {
+        Some(inode) => {
+            if inode < run.inode {
+                return best;
+            }
+            Some(run.inode)
         }
-    }
-    First {
-        found: true,
-        inode: run.inode,
+        None => Some(run.inode),
     }
 }
 
 // The least inode that stands first in a run.
-fn least_inode(runs: &[u64; 72], count: usize) -> First
+fn least_inode(runs: &[u64; 72], count: usize) -> Option<u64>
     requires { count ≤ 17 }
     ensures { Least (walk_of runs.now count) result }
 {
-    let none = First {
-        found: false,
-        inode: 0,
-    };
     let base = run_of(runs, 0);
-    let mut best = lower(none, base);
+    let mut best = lower(None, base);
     for i in 1..=count {
         let run = run_of(runs, i);
         best = lower(best, run);
@@ -106,7 +96,7 @@ pub fn next_stack(img: &[u8], runs: &mut [u64; 72], count: usize) -> Step
     ensures { Steps img.now (walk_of runs.old count) result (walk_of runs.new count) }
 {
     let least = least_inode(runs, count);
-    let mut step = take_stack(img, runs, count, least.inode);
-    step.more = least.found;
+    let mut step = take_stack(img, runs, count, least.unwrap_or(0));
+    step.more = least.is_some();
     step
 }

@@ -5,20 +5,19 @@ ghost use Rattle.rules.specs.Reads.{attribute};
 ghost use Rattle.rules.specs.ReadCalls.{text_of, get_xattr, has_xattr};
 ghost use Rattle.nodes.specs.Options.{text_of as textMeant};
 ghost use Rattle.stack.specs.Stacks.{Stacked, shown, shown_under};
-ghost use Rattle.layers.specs.Answered.{yes_no};
+ghost use Rattle.layers.specs.Answered.{answered};
 ghost use Rattle.xattrs.specs.Xattrs.{XattrAt};
 
-use wire::text::{Part, read_text};
 use deltas::delta::{EntryDelta, attr_delta};
 use image::name::Under;
-use layers::answer::YesNo;
 use lookup::search::find_name;
 use nodes::option::read_maybe_text;
 use stack::name::open_named;
 use stack::stack::{base_node, record_at};
 use survey::batch::InodeLayerStack;
-use wire::cursor::Cursor;
+use survey::refusal::Refusal;
 use wire::part::part;
+use wire::text::{Part, read_text};
 
 // What a record says of an attribute: that it is set or removed, or nothing.
 #[derive(Clone, Copy)]
@@ -32,12 +31,7 @@ pub enum XattrChange {
 pub fn get_xattr<'a>(img: &'a [u8], ino: u64, name: &[u8]) -> &'a [u8]
     ensures { result.now ≡ text_of (get_xattr usual img.now ino name.now) }
 {
-    let opened = open_named(img, ino, name);
-    if opened.refusal != 0 {
-        return part(img, 0, 0);
-    }
-    let stack = opened.stack;
-    let value = xattr_in(img, stack, name);
+    let value = value_of(img, ino, name).unwrap_or(None);
     match value {
         Some(text) => part(img, text.start, text.length),
         None => part(img, 0, 0),
@@ -45,20 +39,20 @@ pub fn get_xattr<'a>(img: &'a [u8], ino: u64, name: &[u8]) -> &'a [u8]
 }
 
 // Whether there is such an attribute.
-pub fn has_xattr(img: &[u8], ino: u64, name: &[u8]) -> YesNo
-    ensures { yes_no result ≡ has_xattr usual img.now ino name.now }
+pub fn has_xattr(img: &[u8], ino: u64, name: &[u8]) -> Result<bool, Refusal>
+    ensures { answered (λ yes. yes) result ≡ has_xattr usual img.now ino name.now }
 {
-    let opened = open_named(img, ino, name);
-    let refusal = opened.refusal;
-    if refusal != 0 {
-        return YesNo::Refused(refusal);
-    }
-    let stack = opened.stack;
+    let value = value_of(img, ino, name)?;
+    Ok(value.is_some())
+}
+
+// Where the value of an attribute stands.
+fn value_of(img: &[u8], ino: u64, name: &[u8]) -> Result<Option<Part>, Refusal>
+    ensures { answered (textMeant img.now) result ≡ get_xattr usual img.now ino name.now }
+{
+    let stack = open_named(img, ino, name)?;
     let value = xattr_in(img, stack, name);
-    match value {
-        Some(_) => YesNo::Yes,
-        None => YesNo::No,
-    }
+    Ok(value)
 }
 
 // From the top: the first record that names the attribute decides, then the base.
@@ -94,9 +88,8 @@ fn xattr_at(img: &[u8], stack: InodeLayerStack, i: usize, name: &[u8]) -> XattrC
     let place = find_name(img, list, Under::Change, name);
     match place {
         Some(at) => {
-            let change = read_maybe_text(img, Cursor::At(at), 4096);
-            let option = change.option;
-            match option {
+            let (change, _) = read_maybe_text(img, at, 4096).unwrap();
+            match change {
                 Some(value) => XattrChange::Set(value),
                 None => XattrChange::Removed,
             }
@@ -119,11 +112,8 @@ fn base_xattr(img: &[u8], stack: InodeLayerStack, name: &[u8]) -> Option<Part>
     let place = find_name(img, list, Under::Value, name);
     match place {
         Some(at) => {
-            let text = read_text(img, Cursor::At(at), 0, 4096);
-            Some(Part {
-                start: text.start,
-                length: text.length,
-            })
+            let (text, _) = read_text(img, at, 0, 4096).unwrap();
+            Some(text)
         }
         None => None,
     }

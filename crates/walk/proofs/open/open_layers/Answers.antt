@@ -7,7 +7,7 @@ pub loop-i-init : goal.loop-i-init
 loop-i-init c = opening-start c.run_at.ensures _ (simp length-replicate) c.set_run.ensures
 
 pub loop-i-preserved : goal.loop-i-preserved
-loop-i-preserved c = opening-more c.loop-i.invariant (omega arith) c.requires c.records_of-top.ensures c.run_at-in-loop-i.ensures c.records_end-end.ensures c.set_run-in-loop-i.ensures
+loop-i-preserved c = opening-more c.loop-i.invariant (omega arith) c.requires c.records_of.ensures c.unwrap_or-top.ensures c.run_at-in-loop-i.ensures c.records_end.ensures c.unwrap_or-end.ensures c.set_run-in-loop-i.ensures
 
 pub returns : goal.returns
-returns c = search (opening-all, arith)
+returns c = opening-all c.read_number.ensures c.unwrap_or-batches.ensures c.loop-i.invariant (omega arith)

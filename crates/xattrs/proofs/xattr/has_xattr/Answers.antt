@@ -1,14 +1,9 @@
-use Rattle.stack.proofs.Naming.{xattr-refused, xattr-fine}
+use Rattle.wire.proofs.Readers.{handed}
+use Rattle.layers.proofs.Calls.{there-stop, there-found}
 use Rattle.xattrs.proofs.xattr.has_xattr.Goals as goal
 
-pub returns-then-refusal-ne0 : goal.returns-then-refusal-ne0
-returns-then-refusal-ne0 c = rw (xattr-refused c.open_named-opened.ensures c.if-refusal-ne0.true)
+pub returns-in_err-value : goal.returns-in_err-value
+returns-in_err-value c = there-stop c.args.img.now c.value_of.ensures c.in_err-value.was (handed c.from_residual.ensures)
 
-pub xattr_in-value-requires : goal.xattr_in-value-requires
-xattr_in-value-requires c = (c.open_named-opened.ensures.stack c.if-refusal-ne0.false).stacked
-
-pub returns-in-Some : goal.returns-in-Some
-returns-in-Some c = rw (xattr-fine c.open_named-opened.ensures c.if-refusal-ne0.false c.xattr_in-value.ensures, c.in-Some.is)
-
-pub returns-in-None : goal.returns-in-None
-returns-in-None c = rw (xattr-fine c.open_named-opened.ensures c.if-refusal-ne0.false c.xattr_in-value.ensures, c.in-None.is)
+pub returns : goal.returns
+returns c = there-found c.args.img.now c.value_of.ensures c.in_ok-value.was c.is_some.ensures

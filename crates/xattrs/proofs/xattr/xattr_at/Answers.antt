@@ -1,4 +1,4 @@
-use Rattle.xattrs.proofs.Xattrs.{at-tombstone, at-unlisted, changes-listed, at_named, at-unnamed}
+use Rattle.xattrs.proofs.Xattrs.{at-tombstone, at-unlisted, changes-listed, change-ok, at_named, at-unnamed}
 use Rattle.xattrs.proofs.xattr.xattr_at.Goals as goal
 
 pub returns-in_default : goal.returns-in_default
@@ -10,11 +10,14 @@ returns-in_default-xattrs c = at-unlisted c.requires c.record_at-entry.ensures c
 pub find_name-place-requires : goal.find_name-place-requires
 find_name-place-requires c = changes-listed c.requires c.record_at-entry.ensures c.args.name.now c.in-Node.is c.attr_delta-fields.ensures c.in-Some.is
 
-pub returns-in-Some-option : goal.returns-in-Some-option
-returns-in-Some-option c = rw c.in-Some-option.is at (at_named c.requires c.record_at-entry.ensures c.args.name.now c.in-Node.is c.attr_delta-fields.ensures c.in-Some.is c.read_maybe_text-change.result.option c.find_name-place.ensures c.in-Some-place.is c.read_maybe_text-change.ensures.reads)
+pub unwrap-change-requires : goal.unwrap-change-requires
+unwrap-change-requires c = change-ok c.requires c.record_at-entry.ensures c.args.name.now c.in-Node.is c.attr_delta-fields.ensures c.in-Some.is c.find_name-place.ensures c.in-Some-place.is c.read_maybe_text.ensures
 
-pub returns-in-None-option : goal.returns-in-None-option
-returns-in-None-option c = rw c.in-None-option.is at (at_named c.requires c.record_at-entry.ensures c.args.name.now c.in-Node.is c.attr_delta-fields.ensures c.in-Some.is c.read_maybe_text-change.result.option c.find_name-place.ensures c.in-Some-place.is c.read_maybe_text-change.ensures.reads)
+pub returns-in-Some-change : goal.returns-in-Some-change
+returns-in-Some-change c = rw c.in-Some-change.is at (at_named c.requires c.record_at-entry.ensures c.args.name.now c.in-Node.is c.attr_delta-fields.ensures c.in-Some.is c.find_name-place.ensures c.in-Some-place.is c.read_maybe_text.ensures _ c.unwrap-change.ensures)
+
+pub returns-in-None-change : goal.returns-in-None-change
+returns-in-None-change c = rw c.in-None-change.is at (at_named c.requires c.record_at-entry.ensures c.args.name.now c.in-Node.is c.attr_delta-fields.ensures c.in-Some.is c.find_name-place.ensures c.in-Some-place.is c.read_maybe_text.ensures _ c.unwrap-change.ensures)
 
 pub returns-in-None : goal.returns-in-None
 returns-in-None c = at-unnamed c.requires c.record_at-entry.ensures c.args.name.now c.in-Node.is c.attr_delta-fields.ensures c.in-Some.is c.find_name-place.ensures c.in-None.is
