@@ -1,9 +1,8 @@
 use native.Mathlib.Omega.{arith}
-use mathlib.Core.Path.{◌≡◌, refl, sym, ◌∙◌}
-use Prim.Native.Nat.{◌+◌, ◌-◌}
+use mathlib.Core.Path.{◌≡◌, refl}
 use lib.ListN.{length, take}
-use lib.Seq.{sets-eq, length-take-le}
-use Rattle.wire.proofs.Puts.{copied_none, copied_all, put-length, mid-sets}
+use lib.Seq.{length-take-le}
+use Rattle.wire.proofs.Puts.{copied_none, copied_all, mid-sets}
 use Rattle.wire.proofs.put.put_bytes.Goals as goal
 use Rattle.wire.proofs.put.put_bytes.Goals.{then-at-buf, else-at-buf}
 
