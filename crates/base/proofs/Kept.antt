@@ -1,6 +1,8 @@
 -- Whether a node stays, told from its first numbers.
 -- Assumes nothing.
-use mathlib.Core.Path.{◌≡◌, refl, sym, ◌∙◌}
+use Rattle.std.specs.Prelude.{Result, Ok, Err}
+use Rattle.std.specs.Result.{result_unwrap_or}
+use mathlib.Core.Path.{◌≡◌, refl, sym, ap, ◌∙◌}
 use mathlib.Core.Bool.{Bool, true, false}
 use mathlib.Core.List.{List, ◌++◌, append_assoc}
 use Prim.Native.Nat.{ℕ, ◌≤◌}
@@ -8,37 +10,32 @@ use native.Mathlib.Omega.{arith}
 use lib.Dec.{eqb, leb}
 use lib.ListN.{drop}
 use borrow.Author.Tests.{ne_eqb}
-use Rattle.wire.specs.declared.cursor.Cursor.{Cursor}
-use Rattle.wire.specs.declared.cursor.Cursor.TheVariants.{At, Stop}
+use Rattle.wire.specs.declared.fault.Fault.{Fault}
 use Rattle.wire.specs.Parse.{got, never-got}
 use Rattle.wire.specs.Combinators.{◌then◌}
 use Rattle.wire.specs.Number.{edge, number_bytes, number_read, number-back}
-use Rattle.wire.specs.Reading.{Answers}
+use Rattle.wire.specs.Reading.{Reads}
 use Rattle.image.specs.Meaning as M
 use Rattle.image.specs.Meaning.{Kind, directory, file, symlink, special, pipe, character, block, socket, kind_number, kind_of}
 use Rattle.image.specs.FieldLayout.{word, moment, attributes}
 use Rattle.image.specs.KindLayout.{kind, kind-small}
 use Rattle.image.specs.NodeLayout.{meta_parts, meta, body_part, body_part_of, node}
 use Rattle.rules.specs.Queue.{is_directory}
-use Rattle.base.specs.Nodes.{StaysAt}
+use Rattle.base.specs.Nodes.{KeptAt, StaysAt}
 use Rattle.base.proofs.Sifting.{sift-by}
 use Rattle.image.proofs.OneForm.{node-one}
 
--- the bytes from a cursor on
-abbrev Stands : List ℕ → Cursor → List ℕ → Type 0
-Stands img (At p) s = drop p img ≡ s
-Stands img (Stop f) s = ⊥
+-- a number that stands at a place is read, and what follows it stands after it
+module _ {img : List ℕ} {most at : ℕ} (e : leb most edge ≡ true) (n : ℕ) (s : List ℕ) (l : n ≤ most) (h : drop at img ≡ number_bytes n ++ s) where
+  number-stands : {v q : ℕ} → Reads img (number_read most) at (Ok (v, q)) → (v ≡ n) × (drop q img ≡ s)
+  number-stands {v} {q} r =
+      let z : got n s ≡ got v (drop q img) = sym (number-back most e n s l) ∙ (rw h at r.same) in
+      let y : v ≡ n = cc in
+      let x : drop q img ≡ s = cc in
+      (y, x)
 
--- a number that stands at the cursor is read, and the cursor stands after it
-number-stands : {img : List ℕ} {most v : ℕ} (at next : Cursor) → leb most edge ≡ true → (n : ℕ) (s : List ℕ) → n ≤ most → Stands img at (number_bytes n ++ s)
-    → Answers img (number_read most) at 0 v next → (v ≡ n) × Stands img next s
-number-stands (Stop f) next e n s l h r = absurd h
-number-stands {most = most} (At p) (Stop f) e n s l h r = never-got (sym (rw h at r.reads.same) ∙ number-back most e n s l)
-number-stands {img} {most} {v} (At p) (At q) e n s l h r =
-    let z : got n s ≡ got v (drop q img) = sym (number-back most e n s l) ∙ (rw h at r.reads.same) in
-    let y : v ≡ n = cc in
-    let x : drop q img ≡ s = cc in
-    (y, x)
+  number-there : {A : Type 0} {f : Fault} → Reads img (number_read most) at (Err f) → A
+  number-there r = never-got (sym (rw h at r.same) ∙ number-back most e n s l)
 
 -- owner, group, times and attributes, what the kind has, and what follows the node
 abbrev after_links : M.Node → List ℕ → List ℕ
@@ -59,25 +56,51 @@ directory-number (special character) = refl
 directory-number (special block) = refl
 directory-number (special socket) = refl
 
-module _ {img : List ℕ} {p k w n : ℕ} {c1 c2 c3 : Cursor} (r1 : Answers img (number_read 6) (At p) 0 k c1) (r2 : Answers img (number_read 4294967295) c1 0 w c2)
-    (r3 : Answers img (number_read 4294967295) c2 0 n c3) where
-  -- the numbers that are read are those of the node
-  numbers-are : (m : M.Node) (t : List ℕ) → node.read (drop p img) ≡ got m t → (k ≡ kind_number (kind_of m.body)) × (n ≡ m.meta.links)
+module _ (img : List ℕ) (p : ℕ) where
+  -- what stands at the place of a node
+  starts : (m : M.Node) (t : List ℕ) → node.read (drop p img) ≡ got m t
+      → drop p img ≡ number_bytes (kind_number (kind_of m.body)) ++ (number_bytes m.meta.perm ++ (number_bytes m.meta.links ++ after_links m t))
+  starts m t e = (node-one.forth (drop p img) m t e).0 ∙ node-starts m t
+
+  perm-small : (m : M.Node) (t : List ℕ) → node.read (drop p img) ≡ got m t → m.meta.perm ≤ 4294967295
   unfolding node
-  numbers-are m t e =
-      let f = node-one.forth (drop p img) m t e in
-      let links = number_bytes m.meta.links ++ after_links m t in
-      let s1 = number-stands (At p) c1 refl (kind_number (kind_of m.body)) (number_bytes m.meta.perm ++ links) (kind-small (kind_of m.body)) (f.0 ∙ node-starts m t) r1 in
-      let s2 = number-stands c1 c2 refl m.meta.perm links (omega (arith, f.1.meta.perm)) s1.1 r2 in
-      let s3 = number-stands c2 c3 refl m.meta.links (after_links m t) (omega (arith, f.1.meta.links)) s2.1 r3 in
-      (s1.0, s3.0)
+  perm-small m t e = let f = (node-one.forth (drop p img) m t e).1.meta.perm in omega arith
 
-  module _ {d : Bool} (x : d ≡ true) where
-    pub stays-linked : (n ≡ 0 → ⊥) → StaysAt img p d true
-    stays-linked z = record { says = λ m t e. let a = numbers-are m t e in rw x (sift-by true m (rw (← a.1, ne_eqb n 0 z))) }
+  links-small : (m : M.Node) (t : List ℕ) → node.read (drop p img) ≡ got m t → m.meta.links ≤ 4294967295
+  unfolding node
+  links-small m t e = let f = (node-one.forth (drop p img) m t e).1.meta.links in omega arith
 
-    pub stays-directory : n ≡ 0 → StaysAt img p d (eqb k 0)
-    stays-directory z = record { says = λ m t e. let a = numbers-are m t e in rw x (sift-by (eqb k 0) m (rw (← a.1, z, directory-number (kind_of m.body), ← a.0))) }
+module _ {img : List ℕ} {p : ℕ} where
+  pub kind-there : {f : Fault} {r : Result Bool Fault} → Reads img (number_read 6) p (Err f) → KeptAt img p r
+  kind-there r1 = record { is = λ m t e. number-there refl _ _ (kind-small (kind_of m.body)) (starts img p m t e) r1 }
+
+  module _ {k c1 : ℕ} (r1 : Reads img (number_read 6) p (Ok (k, c1))) where
+    first : (m : M.Node) (t : List ℕ) → node.read (drop p img) ≡ got m t
+        → (k ≡ kind_number (kind_of m.body)) × (drop c1 img ≡ number_bytes m.meta.perm ++ (number_bytes m.meta.links ++ after_links m t))
+    first m t e = number-stands refl _ _ (kind-small (kind_of m.body)) (starts img p m t e) r1
+
+    pub perm-there : {f : Fault} {r : Result Bool Fault} → Reads img (number_read 4294967295) c1 (Err f) → KeptAt img p r
+    perm-there r2 = record { is = λ m t e. number-there refl _ _ (perm-small img p m t e) (first m t e).1 r2 }
+
+    module _ {w c2 : ℕ} (r2 : Reads img (number_read 4294967295) c1 (Ok (w, c2))) where
+      second : (m : M.Node) (t : List ℕ) → node.read (drop p img) ≡ got m t → drop c2 img ≡ number_bytes m.meta.links ++ after_links m t
+      second m t e = (number-stands refl _ _ (perm-small img p m t e) (first m t e).1 r2).1
+
+      pub links-there : {f : Fault} {r : Result Bool Fault} → Reads img (number_read 4294967295) c2 (Err f) → KeptAt img p r
+      links-there r3 = record { is = λ m t e. number-there refl _ _ (links-small img p m t e) (second m t e) r3 }
+
+      module _ {n c3 : ℕ} (r3 : Reads img (number_read 4294967295) c2 (Ok (n, c3))) where
+        links-are : (m : M.Node) (t : List ℕ) → node.read (drop p img) ≡ got m t → n ≡ m.meta.links
+        links-are m t e = (number-stands refl _ _ (links-small img p m t e) (second m t e) r3).0
+
+        pub kept-linked : (n ≡ 0 → ⊥) → KeptAt img p (Ok true)
+        kept-linked z = record { is = λ m t e. rw (← (links-are m t e), ne_eqb n 0 z) }
+
+        pub kept-directory : n ≡ 0 → KeptAt img p (Ok (eqb k 0))
+        kept-directory z = record { is = λ m t e. rw (← (links-are m t e), z, directory-number (kind_of m.body), ← (first m t e).0) }
+
+pub stays-told : {img : List ℕ} {p : ℕ} {d r : Bool} {o : Result Bool Fault} → d ≡ true → KeptAt img p o → r ≡ result_unwrap_or o true → StaysAt img p d r
+stays-told {r = r} x k h = record { says = λ m t e. rw x (sift-by r m (h ∙ ap (λ (o : Result Bool Fault). result_unwrap_or o true) (k.is m t e))) }
 
 pub stays-always : {img : List ℕ} {p : ℕ} {d : Bool} → d ≡ false → StaysAt img p d true
 stays-always x = record { says = λ m t e. rw x }

@@ -1,8 +1,9 @@
 -- The nodes that fold makes of stacks, by rising inode. Document 01: "Snapshot folds every layer, then drops non-directories with 0 links".
-use Rattle.std.specs.Prelude.{◌≡◌, Bool, true, false, cond, List, [], ◌∷◌, ◌++◌, ℕ, ◌+◌, ◌≤◌, length, drop, None, Option, Some}
+use Rattle.std.specs.Prelude.{◌≡◌, Bool, true, false, cond, List, [], ◌∷◌, ◌++◌, ℕ, ◌+◌, ◌≤◌, length, drop, Result, Ok, None, Option, Some}
 use Rattle.wire.specs.Maps.{sift}
 use Rattle.wire.specs.Number.{edge, number_bytes}
 use Rattle.wire.specs.Parse.{got}
+use Rattle.wire.specs.declared.fault.Fault.{Fault}
 use Rattle.wire.specs.Put.{Put}
 use Rattle.image.specs.Meaning as M
 use Rattle.image.specs.Meaning.{kind_of}
@@ -37,6 +38,9 @@ pub record Stays (n : Node) (drops b : Bool) : Type 0 where
   pub says : (img : List ℕ) (m : M.Node) → Like img n m → kept_if drops (Some m) ≡ cond b (Some m) None
 
 -- the node that is read at a place, by its kind and links
+pub record KeptAt (img : List ℕ) (p : ℕ) (r : Result Bool Fault) : Type 0 where
+  pub is : (m : M.Node) (t : List ℕ) → node.read (drop p img) ≡ got m t → r ≡ Ok (kept m)
+
 pub record StaysAt (img : List ℕ) (p : ℕ) (drops b : Bool) : Type 0 where
   pub says : (m : M.Node) (t : List ℕ) → node.read (drop p img) ≡ got m t → kept_if drops (Some m) ≡ cond b (Some m) None
 

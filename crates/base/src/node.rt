@@ -8,14 +8,15 @@ ghost use Rattle.rules.specs.PlacedStacks.{node_at, unplaced_node};
 ghost use Rattle.stack.specs.Stacks.{Stacked};
 ghost use Rattle.fold.specs.FoldedNodes.{folded_in};
 ghost use Rattle.walk.specs.Walks.{NodeEnds, stacks_left};
-ghost use Rattle.base.specs.Nodes.{Keeps, Stays, StaysAt, kept_if, PutsRow, nodes_of, PutsNodes, Few};
+ghost use Rattle.base.specs.Nodes.{Keeps, Stays, KeptAt, StaysAt, kept_if, PutsRow, nodes_of, PutsNodes, Few};
 
 use change::copy::put_between;
 use fold::folded::{folded_node, put_folded};
+use image::field::LAST_WORD;
 use nodes::node::{Node, NodeKind};
 use survey::batch::InodeLayerStack;
 use walk::walk::{Walk, next_stack};
-use wire::cursor::Cursor;
+use wire::fault::Fault;
 use wire::number::{put_number, read_number};
 
 fn is_directory(kind: NodeKind) -> bool
@@ -56,20 +57,25 @@ pub struct Nodes {
     pub count: u64,
 }
 
-// Whether the node at a place stays, where some are dropped and where none are: its kind, permission and links are its first numbers.
+// Whether a snapshot keeps the node that is read at a place: its kind, permission and links are its first numbers.
+fn kept_at(img: &[u8], place: usize) -> Result<bool, Fault>
+    ensures { KeptAt img.now place result }
+{
+    let (kind, permitted) = read_number(img, place, 6)?;
+    let (_, linked) = read_number(img, permitted, LAST_WORD)?;
+    let (links, _) = read_number(img, linked, LAST_WORD)?;
+    if links != 0 {
+        return Ok(true);
+    }
+    Ok(kind == 0)
+}
+
+// Whether the node at a place stays, where some are dropped and where none are.
 fn stays_at(img: &[u8], place: usize, drops: bool) -> bool
     ensures { StaysAt img.now place drops result }
 {
     if drops {
-        let kind = read_number(img, Cursor::At(place), 6);
-        let permitted = kind.next;
-        let perm = read_number(img, permitted, 0xFFFF_FFFF);
-        let linked = perm.next;
-        let links = read_number(img, linked, 0xFFFF_FFFF);
-        if links.value != 0 {
-            return true;
-        }
-        return kind.value == 0;
+        return kept_at(img, place).unwrap_or(true);
     }
     true
 }

@@ -288,3 +288,29 @@ put_same {K} {A} O k o m e = map-ext O (put O k o m) m (λ j. get-put O j k o m 
     go j Less h = refl
     go j Equal h = sym e ∙ ap (λ (x : K). get O x m) (sym (O.same j k h))
     go j Greater h = refl
+
+-- ---- a row that cannot be read does not stand there
+
+module _ {K A : Type 0} (O : Order K) (key : Codec K) (value : Codec A) {img : List ℕ} {first n : ℕ} {i : K} {here left : ℕ} (w : Cutting O key value img first n i here left)
+    (some_left : 0 < left) {o : Result (K × ℕ) Fault} (a : Reads img key.read here o) where
+  nowhere : ((l rest : List (K × A)) (to : ℕ) (r : K × A) → Come O key value img first i here left l to (r ∷ rest) → ⊥) → Cuts O key value img first n i (no_row O key value n first here)
+  nowhere h = record { from = refl; counts = refl; cut = λ l to e f s. go l to (w l to e f s).0 (w l to e f s).1 }
+    where
+      go : (l : List (K × A)) (to : ℕ) (rest : List (K × A)) → Come O key value img first i here left l to rest → CutIs O key value img i l to (no_row O key value n first here)
+      go l to [] c = absurd (omega (arith, c.many))
+      go l to (r ∷ m) c = absurd (h l m to r c)
+
+  never-err : {B : Type 0} {f : Fault} {x : B} {u : Result B Fault} → u ≡ Err f → u ≡ Ok x → ⊥
+  never-err d e = let z : ◌≡◌ {A = ℕ} 0 1 = cc in omega arith
+
+  -- the key
+  pub cut-unread : {f : Fault} → o ≡ Err f → Cuts O key value img first n i (no_row O key value n first here)
+  cut-unread d = nowhere (λ l m to r c. never-err d (span-reads key (span-front (key.write r.0) (value.write r.1) (row-span O key value c)) c.fit.0.0 a))
+
+  -- what stands under it
+  pub cut-stopped : {x : K × ℕ} {f : Fault} {u : Result ℕ Fault} → o ≡ Ok x → Ends img value.read x.1 u → u ≡ Err f → Cuts O key value img first n i (no_row O key value n first here)
+  cut-stopped {x} e p d = nowhere (λ l m to r c.
+      let z : x ≡ result_unwrap_or o x = rw e in
+      let b = span-back (key.write r.0) (value.write r.1) (row-span O key value c) in
+      let q = ends-past value (here + length (key.write r.0)) (omega (arith, b.ends, b.within)) c.fit.0.1 b.is (rw (start-at O key value c a x z) at p) in
+      never-err d q.1)

@@ -6,12 +6,12 @@ use Prim.Native.Nat.{ℕ, ◌+◌, ◌-◌, ◌≤◌}
 use native.Mathlib.Omega.{arith}
 use lib.ListN.{length, drop, length-append, length-drop, drop_of_length-le}
 use lib.Seq.{take_at, drop-drop, drop-append_seam}
-use Rattle.std.specs.Prelude.{Result, Ok, Err}
+use Rattle.std.specs.Prelude.{Result, Ok, Err, IsOk, is_ok, Bool, true}
 use Rattle.std.specs.Result.{result_unwrap_or}
 use Rattle.wire.specs.declared.fault.Fault.{Fault}
 use Rattle.wire.specs.Parse.{Parsed, fault, got, never-got}
 use Rattle.wire.specs.Codec.{Codec}
-use Rattle.wire.specs.Reading.{Reads, said, next_in}
+use Rattle.wire.specs.Reading.{Reads, said, next_in, meant}
 use Rattle.image.specs.Meaning.{Store}
 use Rattle.image.specs.NodeLayout.{node, base}
 use Rattle.image.specs.RecordLayout.{layer_record, records}
@@ -75,6 +75,9 @@ span_last img {bytes} n h e = record {
 same_place : (img : List ℕ) {m q : ℕ} → m ≤ length img → q ≤ length img → drop m img ≡ drop q img → m ≡ q
 same_place img {m} {q} h k e = omega (arith, length-drop m img, length-drop q img, ap length e)
 
+pub same_Ok : {A E : Type 0} {x y : A} → ◌≡◌ {A = Result A E} (Ok x) (Ok y) → x ≡ y
+same_Ok {A} {E} {x} e = ap (λ (o : Result A E). result_unwrap_or o x) e
+
 -- what a reader finds where this was to be read
 pub reads-got : {A : Type 0} (img : List ℕ) {p : List ℕ → Parsed A} {n q : ℕ} {a : A} {o : Result (A × ℕ) Fault} → p (drop n img) ≡ got a (drop q img) → q ≤ length img
     → Reads img p n o → o ≡ Ok (a, q)
@@ -87,10 +90,30 @@ reads-got {A} img {q = q} {a} {o} d h r = go o (sym d ∙ r.same) r.within
         ap Ok (λ j. (y j, same_place img w h (sym z) j))
     go (Err f) e w = never-got (sym e)
 
+-- so the reader doesn't stop
+pub meant-ok : {X A : Type 0} (m : X → A) (o : Result (X × ℕ) Fault) {y : A × ℕ} → meant m o ≡ Ok y → IsOk o
+meant-ok {X} m o e = go o (ap is_ok e)
+  where
+    go : (o : Result (X × ℕ) Fault) → is_ok (meant m o) ≡ true → IsOk o
+    go (Ok x) e = refl
+    go (Err f) e = e
+
+pub meant-is : {X A : Type 0} (m : X → A) {o : Result (X × ℕ) Fault} {y : A × ℕ} {x : X × ℕ} → meant m o ≡ Ok y → o ≡ Ok x → ◌≡◌ {A = A × ℕ} (m x.0, x.1) y
+meant-is m {x = x} e d = same_Ok (sym (ap (meant m) d) ∙ e)
+
 -- or where a construct was written
 pub span-reads : {A : Type 0} {img : List ℕ} (c : Codec A) {n q : ℕ} {a : A} {o : Result (A × ℕ) Fault} → Spans img n (c.write a) q → c.Fits a
     → Reads img c.read n o → o ≡ Ok (a, q)
 span-reads {img = img} c {q = q} {a} w f r = reads-got img (ap c.read w.is ∙ c.back a (drop q img) f) w.within r
+
+-- the same of a reader by value
+module _ {X A : Type 0} {img : List ℕ} (c : Codec A) (m : X → A) {n q : ℕ} {a : A} (o : Result (X × ℕ) Fault) (w : Spans img n (c.write a) q) (f : c.Fits a)
+    (r : Reads img c.read n (meant m o)) where
+  pub span-ok : IsOk o
+  span-ok = meant-ok m o (span-reads c w f r)
+
+  pub span-value : {x : X × ℕ} → o ≡ Ok x → m x.0 ≡ a
+  span-value d = ap (λ (x : A × ℕ). x.0) (meant-is m (span-reads c w f r) d)
 
 -- what was read is the answer, whatever would be answered if it weren't
 pub value-is : {A E : Type 0} {o : Result A E} {x y : A} (d : A) → o ≡ Ok y → x ≡ result_unwrap_or o d → x ≡ y

@@ -1,6 +1,6 @@
 -- Changes of one inode's live directory delta: set parent, add entry, remove entry.
 -- Assumes nothing.
-use Rattle.std.specs.Prelude.{None, Option, Some}
+use Rattle.std.specs.Prelude.{Result, Err, None, Option, Some}
 use mathlib.Core.Path.{◌≡◌, refl, sym, ap, ◌∙◌}
 use mathlib.Core.Bool.{true, false}
 use mathlib.Core.List.{List, ◌++◌, append_assoc}
@@ -39,13 +39,11 @@ use Rattle.overlay.specs.NewRecords.{directory_bytes, one_image, replaced_of, un
 use Rattle.overlay.specs.Directories.{list_or, IsDirectory, IsOther, Lives, LivesAt}
 use Rattle.overlay.specs.Altered.{Alters}
 use Rattle.directory.specs.Entries.{RowChanged, stamped_of, named_change, SetsName, Naming}
-use Rattle.change.specs.declared.answer.ChangeAnswer.{ChangeAnswer}
-use Rattle.change.specs.declared.answer.ChangeAnswer.TheVariants as A
+use Rattle.survey.specs.declared.refusal.Refusal.{Refusal}
+use Rattle.survey.specs.declared.refusal.Refusal.TheVariants.{BadName, BadArgument}
 use Rattle.change.specs.declared.section.Sections.{Sections}
 use Rattle.change.specs.declared.cut.Cut.{Cut}
 use Rattle.overlay.specs.declared.delta.LiveDelta.{LiveDelta}
-use Rattle.overlay.specs.declared.delta.LiveDirectory.{LiveDirectory}
-use Rattle.overlay.specs.declared.delta.LiveDirectory.TheVariants as D
 use Rattle.overlay.specs.declared.list.NewRow.{NewRow}
 use Rattle.overlay.specs.declared.list.NewRow.TheVariants as R
 use Rattle.overlay.specs.declared.list.NewList.{NewList}
@@ -77,13 +75,13 @@ directory-bytes img given newName n a b l da db =
 
 -- ---- the new image
 
-module _ {img : List ℕ} {p : Sections} {i : ℕ} {cut : Cut} (c : CutsRecords img p.live i cut) {live : LiveDirectory} (h : LivesAt img cut.place live) where
+module _ {img : List ℕ} {p : Sections} {i : ℕ} {cut : Cut} (c : CutsRecords img p.live i cut) {live : Option LiveDelta} (h : LivesAt img cut.place live) where
   module _ {s : Store} (w : Stands img p s) where
     lives : Lives img live (get by_number i s.live)
     lives = h.lives _ (rw (get-here by_number i s.live) (is_cut w c).holds)
 
   -- "on a live record of another sort they do nothing"
-  pub stays_same : live ≡ D.Other → {given newName : List ℕ} (D : DirectoryChange) {n : NewLive} → n ≡ unchanged_of cut i
+  pub stays_same : live ≡ None → {given newName : List ℕ} (D : DirectoryChange) {n : NewLive} → n ≡ unchanged_of cut i
       → Alters img given newName p i (on_directory D) n
   stays_same e {given} {newName} D {n} q = record {
     writes = λ s w.
@@ -93,7 +91,7 @@ module _ {img : List ℕ} {p : Sections} {i : ℕ} {cut : Cut} (c : CutsRecords 
         ∙ ap (λ (x : Option Record). write_image (set_live (put by_number i x s.live) s)) (sym (o.stays D));
   }
 
-  module _ {d : LiveDelta} (e : live ≡ D.Directory d) where
+  module _ {d : LiveDelta} (e : live ≡ Some d) where
     -- a directory delta in its place
     directory-set : (given newName : List ℕ) (D : DirectoryChange) (n : NewDirectory) {new : NewLive} → new ≡ replaced_of cut i (N.Directory n)
         → ((s : Store) → Stands img p s → IsDirectory img d (get by_number i s.live) → directory_bytes img given newName n
@@ -138,7 +136,7 @@ module _ {img : List ℕ} {p : Sections} {i : ℕ} {cut : Cut} (c : CutsRecords 
 
 -- ---- the calls
 
-pub parent-made : {img : List ℕ} {p : Sections} {s : Store} {i q : ℕ} {old new : List ℕ} {answer : ChangeAnswer} {n : NewLive} → Stands img p s
+pub parent-made : {img : List ℕ} {p : Sections} {s : Store} {i q : ℕ} {old new : List ℕ} {answer : Result ℕ Refusal} {n : NewLive} → Stands img p s
     → Alters img img img p i (on_directory (setting_parent q)) n
     → Changes (if_fits (one_image img img img p n) (length old)) old answer new → Changes (update_dir_parent usual img i q (length old)) old answer new
 unfolding result
@@ -146,14 +144,14 @@ parent-made {s = s} {i} {q} w r k = changes-made (Call.set_parent i q) w refl (r
 
 module _ {c : Call} {i : ℕ} {name : Text} {t : Time} {added removed : NewRow} (y : Naming c i name t added removed)
     {img : List ℕ} {p : Sections} {s : Store} (w : Stands img p s) {old : List ℕ} where
-  pub name-refused : bad_name name ≡ true → Changes (by_rules usual c img (length old)) old (A.Refused 3) old
+  pub name-refused : bad_name name ≡ true → Changes (by_rules usual c img (length old)) old (Err BadName) old
   name-refused h = changes-refused c w (y.refuses s ∙ rw h)
 
   module _ (h : bad_name name ≡ false) where
-    pub time-refused : 1000000000 ≤ t.nanos → Changes (by_rules usual c img (length old)) old (A.Refused 4) old
+    pub time-refused : 1000000000 ≤ t.nanos → Changes (by_rules usual c img (length old)) old (Err BadArgument) old
     time-refused k = changes-refused c w (y.refuses s ∙ rw (h, le-leb 1000000000 t.nanos k))
 
-    pub name-made : {new : List ℕ} {answer : ChangeAnswer} {n : NewLive} → t.nanos < 1000000000 → SetsName img p i name t added removed n
+    pub name-made : {new : List ℕ} {answer : Result ℕ Refusal} {n : NewLive} → t.nanos < 1000000000 → SetsName img p i name t added removed n
         → Changes (if_fits (one_image img name name p n) (length old)) old answer new → Changes (by_rules usual c img (length old)) old answer new
     name-made k r z =
         changes-made c w (y.refuses s ∙ rw (h, lt-leb 1000000000 t.nanos k))

@@ -1,7 +1,7 @@
 -- A list by name with the row of one name changed. Document 01: "Adding takes the name out of removed, and the reverse; both set mtime and
 -- ctime to the given time."
 use Rattle.wire.specs.declared.text.Part.{Part}
-use Rattle.std.specs.Prelude.{◌≡◌, Bool, true, false, not, cond, List, [], ◌∷◌, ℕ, ◌≤◌, length, None, Option, Some}
+use Rattle.std.specs.Prelude.{◌≡◌, Bool, true, false, not, cond, List, [], ◌∷◌, ℕ, ◌≤◌, length, Result, None, Option, Some}
 use Rattle.wire.specs.declared.time.Time.{Time}
 use Rattle.wire.specs.Orders.{by_bytes}
 use Rattle.wire.specs.Maps.{put}
@@ -26,7 +26,7 @@ use Rattle.change.specs.Cuts.{count_after}
 use Rattle.overlay.specs.NewLists.{kept_of, list_bytes}
 use Rattle.overlay.specs.Directories.{list_or}
 use Rattle.overlay.specs.Altered.{Alters}
-use Rattle.change.specs.declared.answer.ChangeAnswer.{ChangeAnswer}
+use Rattle.survey.specs.declared.refusal.Refusal.{Refusal}
 use Rattle.change.specs.declared.cut.Cut.{Cut}
 use Rattle.change.specs.declared.section.Sections.{Sections}
 use Rattle.overlay.specs.declared.list.NewRow.{NewRow}
@@ -117,5 +117,5 @@ pub record Naming (c : Call) (i : ℕ) (name : Text) (t : Time) (added removed :
   pub refuses : (s : Store) → refusal c s ≡ first_of ((3, bad_name name) ∷ (4, bad_time t) ∷ [])
   pub gives : (s : Store) → result usual c s ≡ on_live i (on_directory (named_change name t in_added in_removed)) s
 
-abbrev pub ChangesName : List ℕ → ℕ → Text → Time → NewRow → NewRow → List ℕ → ChangeAnswer → List ℕ → Type 0
+abbrev pub ChangesName : List ℕ → ℕ → Text → Time → NewRow → NewRow → List ℕ → Result ℕ Refusal → List ℕ → Type 0
 ChangesName img i name t added removed old r new = (c : Call) → Naming c i name t added removed → Changes (by_rules usual c img (length old)) old r new

@@ -8,16 +8,16 @@ ghost use Rattle.overlay.specs.Altered.{Alters};
 ghost use Rattle.directory.specs.Entries.{stamped_of, SetsName, ChangesName};
 
 use crate::name::with_row;
-use change::answer::ChangeAnswer;
 use change::cut::cut_records;
 use change::section::{Sections, open_sections};
 use image::name::Under;
 use nodes::attr::AttrDelta;
-use overlay::delta::{LiveDirectory, live_directory};
+use overlay::delta::live_directory;
 use overlay::list::{NewRow, kept};
 use overlay::record::{NewDirectory, NewRecord};
 use overlay::write::{NewLive, replaced, unchanged, write_record};
 use stack::name::bad_name;
+use survey::refusal::Refusal;
 use wire::time::Time;
 
 // Adds an entry to the live directory delta, and takes its name out of removed.
@@ -28,7 +28,7 @@ pub fn add_dir_entry(
     inode: u64,
     time: Time,
     target: &mut [u8],
-) -> ChangeAnswer
+) -> Result<usize, Refusal>
     ensures { Changes (add_dir_entry usual img.now ino name.now inode time (length target.old)) target.old result target.new }
 {
     change_name(
@@ -49,7 +49,7 @@ pub fn remove_dir_entry(
     name: &[u8],
     time: Time,
     target: &mut [u8],
-) -> ChangeAnswer
+) -> Result<usize, Refusal>
     ensures { Changes (remove_dir_entry usual img.now ino name.now time (length target.old)) target.old result target.new }
 {
     change_name(img, ino, name, time, NewRow::Absent, NewRow::Name, target)
@@ -64,20 +64,16 @@ fn change_name(
     added: NewRow,
     removed: NewRow,
     target: &mut [u8],
-) -> ChangeAnswer
+) -> Result<usize, Refusal>
     ensures { ChangesName img.now ino name.now time added removed target.old result target.new }
 {
-    let opened = open_sections(img);
-    if opened.refusal != 0 {
-        return ChangeAnswer::Refused(opened.refusal);
-    }
+    let sections = open_sections(img)?;
     if bad_name(name) {
-        return ChangeAnswer::Refused(3);
+        return Err(Refusal::BadName);
     }
     if 1_000_000_000 <= time.nanos {
-        return ChangeAnswer::Refused(4);
+        return Err(Refusal::BadArgument);
     }
-    let sections = opened.sections;
     let new = with_name(img, sections, ino, name, time, added, removed);
     write_record(img, name, name, sections, new, target)
 }
@@ -95,23 +91,17 @@ fn with_name(
     ensures { SetsName img.now sections ino name.now time added removed result }
 {
     let cut = cut_records(img, sections.live, ino);
-    let place = cut.place;
-    let live = live_directory(img, place);
-    match live {
-        LiveDirectory::Directory(delta) => {
-            let attr_delta = delta.attr_delta;
-            let parent = delta.parent;
-            let entries = delta.added;
-            let names = delta.removed;
+    match live_directory(img, cut.place) {
+        Some(delta) => {
             let directory = NewDirectory {
-                attr_delta: stamped(attr_delta, time),
-                parent,
-                added: with_row(img, entries, Under::Inode, name, added),
-                removed: with_row(img, names, Under::Nothing, name, removed),
+                attr_delta: stamped(delta.attr_delta, time),
+                parent: delta.parent,
+                added: with_row(img, delta.added, Under::Inode, name, added),
+                removed: with_row(img, delta.removed, Under::Nothing, name, removed),
             };
             replaced(cut, ino, NewRecord::Directory(directory))
         }
-        LiveDirectory::Other => unchanged(cut, ino),
+        None => unchanged(cut, ino),
     }
 }
 
@@ -119,37 +109,23 @@ fn with_name(
 fn stamped(attr_delta: AttrDelta, time: Time) -> AttrDelta
     ensures { result ≡ stamped_of attr_delta time }
 {
-    let mode = attr_delta.mode;
-    let uid = attr_delta.uid;
-    let gid = attr_delta.gid;
-    let nlink = attr_delta.nlink;
-    let atime = attr_delta.atime;
-    let mtime = Some(time);
-    let ctime = Some(time);
-    let created_at = attr_delta.created_at;
-    let xattrs = attr_delta.xattrs;
     AttrDelta {
-        mode,
-        uid,
-        gid,
-        nlink,
-        atime,
-        mtime,
-        ctime,
-        created_at,
-        xattrs,
+        mtime: Some(time),
+        ctime: Some(time),
+        ..attr_delta
     }
 }
 
 // Sets the parent of the live directory delta.
-pub fn update_dir_parent(img: &[u8], ino: u64, parent: u64, target: &mut [u8]) -> ChangeAnswer
+pub fn update_dir_parent(
+    img: &[u8],
+    ino: u64,
+    parent: u64,
+    target: &mut [u8],
+) -> Result<usize, Refusal>
     ensures { Changes (update_dir_parent usual img.now ino parent (length target.old)) target.old result target.new }
 {
-    let opened = open_sections(img);
-    if opened.refusal != 0 {
-        return ChangeAnswer::Refused(opened.refusal);
-    }
-    let sections = opened.sections;
+    let sections = open_sections(img)?;
     let new = with_parent(img, sections, ino, parent);
     write_record(img, img, img, sections, new, target)
 }
@@ -159,21 +135,16 @@ fn with_parent(img: &[u8], sections: Sections, ino: u64, parent: u64) -> NewLive
     ensures { Alters img.now img.now img.now sections ino (on_directory (setting_parent parent)) result }
 {
     let cut = cut_records(img, sections.live, ino);
-    let place = cut.place;
-    let live = live_directory(img, place);
-    match live {
-        LiveDirectory::Directory(delta) => {
-            let attr_delta = delta.attr_delta;
-            let added = delta.added;
-            let removed = delta.removed;
+    match live_directory(img, cut.place) {
+        Some(delta) => {
             let directory = NewDirectory {
-                attr_delta,
+                attr_delta: delta.attr_delta,
                 parent: Some(parent),
-                added: kept(added),
-                removed: kept(removed),
+                added: kept(delta.added),
+                removed: kept(delta.removed),
             };
             replaced(cut, ino, NewRecord::Directory(directory))
         }
-        LiveDirectory::Other => unchanged(cut, ino),
+        None => unchanged(cut, ino),
     }
 }

@@ -7,15 +7,15 @@ ghost use Rattle.image.specs.Under.{under};
 ghost use Rattle.change.specs.Cuts.{Cuts, CutsList};
 ghost use Rattle.directory.specs.Entries.{has_row, stays_absent, changed_rows, cut_list, RowChanged};
 
-use wire::text::{Part, read_text};
-use std::cmp::Ordering;
 use change::cut::{Cut, count_after};
+use image::field::LAST_WORD;
 use image::name::{Under, pass_under};
 use overlay::list::{Gap, NewList, NewRow, NewRows, kept};
-use wire::cursor::{Cursor, place_at};
+use std::cmp::Ordering;
 use wire::number::read_number;
 use wire::order::compare_part;
 use wire::put::advance;
+use wire::text::{Part, read_text};
 
 // The list with the row of a name as it is to be.
 pub fn with_row(img: &[u8], list: Option<Part>, what: Under, name: &[u8], new: NewRow) -> NewList
@@ -44,8 +44,7 @@ fn with_cut(list: Option<Part>, cut: Cut, end: usize, new: NewRow) -> NewList
     requires { cut.count ≤ last_count }
     ensures { result ≡ cut_list list cut end new }
 {
-    let place = cut.place;
-    if stays_absent(place, new) {
+    if stays_absent(cut.place, new) {
         return kept(list);
     }
     NewList::Changed(changed_rows(cut, end, new))
@@ -55,9 +54,8 @@ fn changed_rows(cut: Cut, end: usize, new: NewRow) -> NewRows
     requires { cut.count ≤ last_count }
     ensures { result ≡ changed_rows cut end new }
 {
-    let place = cut.place;
     NewRows {
-        count: count_after(cut.count, place, has_row(new)),
+        count: count_after(cut.count, cut.place, has_row(new)),
         first: cut.first,
         lower: Gap {
             start: cut.first,
@@ -95,9 +93,8 @@ fn has_row(new: NewRow) -> bool
 pub fn cut_names(img: &[u8], at: usize, what: Under, name: &[u8]) -> Cut
     ensures { CutsList by_bytes nameText (under what) img.now at name.now result }
 {
-    let count = read_number(img, Cursor::At(at), 0xFFFF_FFFF);
-    let next = count.next;
-    cut_named(img, place_at(next), count.value, what, name)
+    let (count, first) = read_number(img, at, LAST_WORD).unwrap_or((0, 0));
+    cut_named(img, first, count, what, name)
 }
 
 // `count` rows from `first` on.
@@ -106,10 +103,12 @@ fn cut_named(img: &[u8], first: usize, count: u64, what: Under, name: &[u8]) -> 
 {
     let mut row = first;
     for _ in 0..count {
-        let text = read_text(img, Cursor::At(row), 1, 255);
-        let start = text.next;
-        let next = pass_under(img, start, what);
-        let after = place_at(next);
+        let Ok((text, start)) = read_text(img, row, 1, 255) else {
+            break;
+        };
+        let Ok(after) = pass_under(img, start, what) else {
+            break;
+        };
         match compare_part(img, text.start, text.length, name) {
             Ordering::Less => {}
             Ordering::Equal => {
@@ -118,7 +117,7 @@ fn cut_named(img: &[u8], first: usize, count: u64, what: Under, name: &[u8]) -> 
                     first,
                     row,
                     after,
-                    place: Some(place_at(start)),
+                    place: Some(start),
                 };
             }
             Ordering::Greater => break,

@@ -1,25 +1,28 @@
 -- Fold and snapshot: their new images, and how they end.
 -- Assumes nothing.
-use Rattle.std.specs.Prelude.{None}
-use mathlib.Core.Path.{◌≡◌, refl, ap, ◌∙◌}
+use Rattle.std.specs.Prelude.{None, Result, Ok, Err, IsOk, is_ok}
+use Rattle.std.specs.Result.{result_err}
+use mathlib.Core.Path.{◌≡◌, refl, sym, ap, ◌∙◌}
 use mathlib.Core.Bool.{Bool, true, false, cond}
 use mathlib.Core.List.{List, [], ◌∷◌, append-nil}
 use Prim.Native.Nat.{ℕ, ◌+◌, min}
 use native.Mathlib.Omega.{arith}
 use lib.ListN.{length, take, length-append, drop_of_length-le}
 use lib.Seq.{sets, take-length}
-use Rattle.wire.specs.declared.cursor.Cursor.{Cursor}
-use Rattle.wire.specs.declared.cursor.Cursor.TheVariants.{At}
+use Rattle.wire.specs.declared.fault.Fault.{Fault}
 use Rattle.wire.specs.Number.{edge, number_bytes, number_read}
 use Rattle.wire.specs.Put.{Put}
 use Rattle.wire.proofs.Puts.{put-append}
-use Rattle.wire.specs.Reading.{Reads, Answers}
+use Rattle.wire.specs.Reading.{Reads, meant}
 use Rattle.wire.specs.Maps.{empty}
 use Rattle.image.specs.Meaning.{Batch, Layer, Store}
 use Rattle.image.specs.Fits.{FitsStore}
-use Rattle.survey.specs.Verdict.{verdict_of}
+use Rattle.survey.specs.Verdict.{number_of, verdict_of}
+use Rattle.survey.specs.declared.refusal.Refusal.{Refusal}
+use Rattle.survey.specs.declared.refusal.Refusal.TheVariants as D
 use Rattle.image.specs.RoundTrip.{write_image}
-use Rattle.writers.specs.Tails.{TailParts, tail}
+use Rattle.writers.specs.Tails.{TailParts, tail, tail_meant}
+use Rattle.writers.specs.declared.tail.Tail.{Tail}
 use Rattle.rules.specs.Initial.{usual}
 use Rattle.rules.specs.Answers.{refused, answer, first_of}
 use Rattle.rules.specs.Refusals.{is_empty}
@@ -30,14 +33,11 @@ use Rattle.rules.specs.Outcomes.{result}
 use Rattle.rules.specs.Room.{has_room}
 use Rattle.rules.specs.ReadCalls.{map_answer}
 use Rattle.rules.specs.ChangeCalls.{new_image, fold_entries, snapshot_all}
-use Rattle.rules.proofs.Asked.{over-fine, verdict-refused, number-refused}
+use Rattle.rules.proofs.Asked.{over-fine, verdict-refused}
 use Rattle.change.specs.Changed.{Changes, if_fits}
-use Rattle.change.specs.Sections.{tail_of, Stands, Opens}
-use Rattle.change.specs.declared.answer.ChangeAnswer.{ChangeAnswer}
-use Rattle.change.specs.declared.answer.ChangeAnswer.TheVariants as A
+use Rattle.change.specs.Sections.{tail_of, Stands}
 use Rattle.change.specs.declared.section.Sections.{Sections}
-use Rattle.change.specs.declared.section.Opened.{Opened}
-use Rattle.change.proofs.Queued.{stands-count}
+use Rattle.change.proofs.Queued.{stands-counted, stands-count}
 use Rattle.change.proofs.Sections.{span-part, span-both, span-reads, store_bytes, stands-fits}
 use Rattle.change.proofs.Finishing.{changes-refused, changes-made}
 use Rattle.change.proofs.Batches.{queue_bytes, batches-bytes}
@@ -75,11 +75,12 @@ module _ (img : List ℕ) (w : Walk) (f : Flush) {d : Bool} (e : d ≡ drops_of 
 
 -- ---- how a snapshot ends
 
-pub snapshot-unopened : {img old : List ℕ} {r : Opened} → Opens img r → (r.refusal ≡ 0 → ⊥) → Changes (snapshot_all usual img (length old)) old (A.Refused r.refusal) old
+pub snapshot-unopened : {A : Type 0} (img : List ℕ) {old : List ℕ} {o : Result A Refusal} {e : Refusal} {r : Result ℕ Refusal} → result_err o ≡ verdict_of img → o ≡ Err e → r ≡ Err e
+    → Changes (snapshot_all usual img (length old)) old r old
 unfolding new_image
-snapshot-unopened {img} {old} {r} o h =
-    let e : snapshot_all usual img (length old) ≡ refused r.refusal = verdict-refused _ img _ (number-refused (verdict_of img) o.number h) in
-    record { answers = rw e; leaves = rw e }
+snapshot-unopened img {old} {e = e} v d z =
+    let h : snapshot_all usual img (length old) ≡ refused (number_of e) = verdict-refused _ img e (sym v ∙ ap result_err d) in
+    rw z (record { answers = rw h; leaves = rw h })
 
 -- the new image, if there is room
 snapshot-fits : {img : List ℕ} {p : Sections} {s : Store} → Stands img p s → (room : ℕ) → snapshot_all usual img room ≡ if_fits (write_image (snapshot usual s)) room
@@ -97,52 +98,72 @@ some-batch : (bs : List Batch) → (length bs ≡ 0 → ⊥) → first_of ((8, i
 some-batch [] h = absurd (h refl)
 some-batch (b ∷ bs) h = refl
 
-module _ {img : List ℕ} {p : Sections} {s : Store} (w : Stands img p s) {n : ℕ} (first : Cursor) (a : Answers img (number_read 16) (At p.batches) 0 n first) where
-  -- ---- "Fold applies the front batch to the base."
+-- what means something was read
+meant-ok : {X A : Type 0} (m : X → A) {x : A × ℕ} (o : Result (X × ℕ) Fault) → meant m o ≡ Ok x → IsOk o
+meant-ok m (Ok y) e = refl
+meant-ok {A = A} m (Err f) e = ap (λ (o : Result (A × ℕ) Fault). is_ok o) e
 
-  pub fold-none : {old : List ℕ} → n ≡ 0 → Changes (fold_entries usual img (length old)) old (A.Refused 8) old
-  fold-none h = changes-refused Call.fold w (rw (drop_of_length-le s.batches {i = 0} (omega (arith, stands-count w first a, h))))
+module _ {img : List ℕ} {p : Sections} {s : Store} (w : Stands img p s) {o : Result (ℕ × ℕ) Fault} (a : Reads img (number_read 16) p.batches o) where
+  pub count-ok : IsOk o
+  count-ok = rw (stands-counted w a) refl
 
-  module _ {r : Layers} (o : OpensLayers img p 1 r) where
-    front-over : Over img s.base (take 1 (layers s)) r.walk
-    front-over = (o.opens s w (omega (arith, layers-count s.batches s.live))).over
+  module _ {x : ℕ × ℕ} (c : o ≡ Ok x) where
+    -- ---- "Fold applies the front batch to the base."
 
-    pub fold-few : Few img r.walk
-    fold-few = walk-few s 1 (stands-fits w) front-over
+    pub fold-none : {old : List ℕ} → x.0 ≡ 0 → Changes (fold_entries usual img (length old)) old (Err D.NoBatch) old
+    fold-none h = changes-refused Call.fold w (rw (drop_of_length-le s.batches {i = 0} (omega (arith, stands-count w a c, h))))
 
-    fold-base : (bs : List Batch) (live : Layer) → (length bs ≡ 0 → ⊥) → fold_all usual (take 1 (with_live bs live)) s.base ≡ fold_front usual bs s.base
-    unfolding fold_all
-    fold-base [] live h = absurd (h refl)
-    fold-base (b ∷ bs) live h = refl
+    module _ {r : Layers} (l : OpensLayers img p 1 r) where
+      front-over : Over img s.base (take 1 (layers s)) r.walk
+      front-over = (l.opens s w (omega (arith, layers-count s.batches s.live))).over
 
-    fold-bytes : (n ≡ 0 → ⊥) → flushed img r.walk (F.Fold p.batches) ≡ write_image (set_base (fold_front usual s.batches s.base) s)
-    fold-bytes h =
-        rw (base-written front-over false, span-part (span-both w.batches (span-both w.live w.tail)), store_bytes, fold-base s.batches s.live (λ z. h (stands-count w first a ∙ z)))
+      pub fold-few : Few img r.walk
+      fold-few = walk-few s 1 (stands-fits w) front-over
 
-    pub fold-made : {old new : List ℕ} {answer : ChangeAnswer} → (n ≡ 0 → ⊥) → Changes (if_fits (flushed img r.walk (F.Fold p.batches)) (length old)) old answer new
-        → Changes (fold_entries usual img (length old)) old answer new
-    unfolding result
-    fold-made h = changes-made Call.fold w (some-batch s.batches (λ z. h (stands-count w first a ∙ z))) (fold-bytes h)
+      fold-base : (bs : List Batch) (live : Layer) → (length bs ≡ 0 → ⊥) → fold_all usual (take 1 (with_live bs live)) s.base ≡ fold_front usual bs s.base
+      unfolding fold_all
+      fold-base [] live h = absurd (h refl)
+      fold-base (b ∷ bs) live h = refl
 
-  -- ---- "Snapshot folds every layer"
+      fold-bytes : (x.0 ≡ 0 → ⊥) → flushed img r.walk (F.Fold p.batches) ≡ write_image (set_base (fold_front usual s.batches s.base) s)
+      fold-bytes h =
+          rw (base-written front-over false, span-part (span-both w.batches (span-both w.live w.tail)), store_bytes, fold-base s.batches s.live (λ z. h (stands-count w a c ∙ z)))
 
-  pub all-few : {m : ℕ} {r : Layers} → OpensLayers img p m r → m ≡ n + 1 → Few img r.walk
-  all-few {m} o e = walk-few s m (stands-fits w) (o.opens s w (omega (arith, e, stands-count w first a, layers-count s.batches s.live))).over
+      pub fold-made : {old new : List ℕ} {answer : Result ℕ Refusal} → (x.0 ≡ 0 → ⊥) → Changes (if_fits (flushed img r.walk (F.Fold p.batches)) (length old)) old answer new
+          → Changes (fold_entries usual img (length old)) old answer new
+      unfolding result
+      fold-made h = changes-made Call.fold w (some-batch s.batches (λ z. h (stands-count w a c ∙ z))) (fold-bytes h)
 
-  module _ {m : ℕ} {r : Layers} (o : OpensLayers img p m r) (e : m ≡ n + 1) where
-    all-over : Over img s.base (layers s) r.walk
-    all-over =
-        let z : m ≡ length (layers s) = omega (arith, e, stands-count w first a, layers-count s.batches s.live) in
-        rw (z, take-length) at (o.opens s w (omega (arith, z))).over
+    -- ---- "Snapshot folds every layer"
 
-    module _ {t : TailParts} (next : Cursor) (g : Reads img tail.read (At p.tail) t next) where
-      next-is : t.0 ≡ s.next
-      next-is = ap (λ (x : TailParts). x.0) (span-reads tail w.tail (tail-fits (stands-fits w)) next g).0
+    pub all-few : {m : ℕ} {r : Layers} → OpensLayers img p m r → m ≡ x.0 + 1 → Few img r.walk
+    all-few {m} l e = walk-few s m (stands-fits w) (l.opens s w (omega (arith, e, stands-count w a c, layers-count s.batches s.live))).over
 
-      snapshot-bytes : flushed img r.walk (F.Snapshot t.0) ≡ write_image (snapshot usual s)
-      unfolding snapshot queue_bytes empty
-      snapshot-bytes = rw (base-written all-over true, next-is, store_bytes, batches-bytes, append-nil)
+    module _ {m : ℕ} {r : Layers} (l : OpensLayers img p m r) (e : m ≡ x.0 + 1) where
+      all-over : Over img s.base (layers s) r.walk
+      all-over =
+          let z : m ≡ length (layers s) = omega (arith, e, stands-count w a c, layers-count s.batches s.live) in
+          rw (z, take-length) at (l.opens s w (omega (arith, z))).over
 
-      pub snapshot-made : {old new : List ℕ} {answer : ChangeAnswer} → Changes (if_fits (flushed img r.walk (F.Snapshot t.0)) (length old)) old answer new
-          → Changes (snapshot_all usual img (length old)) old answer new
-      snapshot-made {old} h = rw (snapshot-fits w (length old), ← snapshot-bytes) h
+      module _ {n : ℕ} (next : n ≡ s.next) where
+        snapshot-bytes : flushed img r.walk (F.Snapshot n) ≡ write_image (snapshot usual s)
+        unfolding snapshot queue_bytes empty
+        snapshot-bytes = rw (base-written all-over true, next, store_bytes, batches-bytes, append-nil)
+
+        pub snapshot-made : {old new : List ℕ} {answer : Result ℕ Refusal} → Changes (if_fits (flushed img r.walk (F.Snapshot n)) (length old)) old answer new
+            → Changes (snapshot_all usual img (length old)) old answer new
+        snapshot-made {old} h = rw (snapshot-fits w (length old), ← snapshot-bytes) h
+
+tail-is : {img : List ℕ} {p : Sections} {s : Store} → Stands img p s → (o : Result (Tail × ℕ) Fault) → Reads img tail.read p.tail (meant tail_meant o)
+    → meant tail_meant o ≡ Ok (tail_of s, length img)
+tail-is w o g = span-reads tail w.tail (tail-fits (stands-fits w)) g
+
+module _ {img : List ℕ} {p : Sections} {s : Store} (w : Stands img p s) (o : Result (Tail × ℕ) Fault) (g : Reads img tail.read p.tail (meant tail_meant o)) where
+  pub tail-ok : IsOk o
+  tail-ok = meant-ok tail_meant o (tail-is w o g)
+
+  pub next-is : {y : Tail × ℕ} → o ≡ Ok y → y.0.next_id ≡ s.next
+  next-is {y} d =
+      let e : ◌≡◌ {A = Result (TailParts × ℕ) Fault} (Ok (tail_meant y.0, y.1)) (Ok (tail_of s, length img)) = rw d at (tail-is w o g) in
+      let z : tail_meant y.0 ≡ tail_of s = cc in
+      ap (λ (t : TailParts). t.0) z

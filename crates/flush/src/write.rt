@@ -6,8 +6,9 @@ ghost use Rattle.base.specs.Nodes.{Few};
 ghost use Rattle.flush.specs.Flushes.{drops_of, emptied, rest_bytes, flushed};
 
 use base::node::put_nodes;
-use change::answer::{ChangeAnswer, lacks_room};
+use change::answer::lacks_room;
 use change::copy::put_between;
+use survey::refusal::Refusal;
 use walk::walk::Walk;
 use wire::number::put_number;
 use wire::put::advance;
@@ -58,7 +59,12 @@ fn put_rest(buf: &mut [u8], at: usize, img: &[u8], flush: Flush) -> usize
 }
 
 // Measures the new image, and writes it to the target if there is room.
-pub fn write_flushed(img: &[u8], walk: Walk, flush: Flush, target: &mut [u8]) -> ChangeAnswer
+pub fn write_flushed(
+    img: &[u8],
+    walk: Walk,
+    flush: Flush,
+    target: &mut [u8],
+) -> Result<usize, Refusal>
     requires { Few img.now walk }
     ensures { Changes (if_fits (flushed img.now walk flush) (length target.old)) target.old result target.new }
 {
@@ -68,10 +74,10 @@ pub fn write_flushed(img: &[u8], walk: Walk, flush: Flush, target: &mut [u8]) ->
     let count = put_number(&mut none, 0, nodes.count);
     let size = put_rest(&mut none, advance(count, nodes.end), img, flush);
     if lacks_room(size, target.len()) {
-        return ChangeAnswer::Refused(5);
+        return Err(Refusal::NoRoom);
     }
     let start = put_number(target, 0, nodes.count);
     let base = put_nodes(target, start, img, walk, drops);
     let end = put_rest(target, base.end, img, flush);
-    ChangeAnswer::Length(end)
+    Ok(end)
 }

@@ -16,7 +16,6 @@ use Rattle.merge.specs.Sources.{row_at}
 use Rattle.merge.specs.Merges.{sources_of, Least, PassedAll, Ready, given_by, plain_row, decided_rows, merge_rows, merge_of, Gives, count_of}
 use Rattle.merge.specs.declared.source.Head.{Head}
 use Rattle.merge.specs.declared.merge.Sources.{Sources}
-use Rattle.merge.specs.declared.merge.Counted.TheVariants as C
 use Rattle.merge.proofs.Piles.{ascend-pass}
 use Rattle.merge.proofs.Unite.{decisions-end, decisions-step, decisions-fewer}
 
@@ -72,13 +71,13 @@ module _ {img : List ℕ} {all : Sources} {room : ℕ} {h₀ h : Head} {rest₀ 
   all-rows : length (decided_rows img all) ≡ n + length (merge_rows img (merge_of h rest))
   all-rows = ap length t₀.settles.rows ∙ g.are
 
-  pub counting-all : h.more ≡ false → C.Rows n ≡ count_of (length (decided_rows img all)) room
+  pub counting-all : h.more ≡ false → Some n ≡ count_of (length (decided_rows img all)) room
   counting-all e =
       let z : length (decided_rows img all) ≡ n = rw e at all-rows ∙ omega arith in
       let low = g.low in
       rw (z, le-ltb room n low)
 
-  pub counting-full : h.more ≡ true → room ≤ n → C.TooMany ≡ count_of (length (decided_rows img all)) room
+  pub counting-full : h.more ≡ true → room ≤ n → None ≡ count_of (length (decided_rows img all)) room
   counting-full e k =
       let z = rw e at all-rows in
       rw (lt-ltb room (length (decided_rows img all)) (omega (arith, z)))

@@ -16,8 +16,6 @@ use Rattle.merge.specs.declared.merge.Sources.{Sources}
 use Rattle.merge.specs.declared.merge.AtMostTwo.{AtMostTwo}
 use Rattle.merge.specs.declared.merge.AtMostTwo.TheVariants as F
 use Rattle.merge.specs.declared.merge.Merge.{Merge}
-use Rattle.merge.specs.declared.merge.Counted.{Counted}
-use Rattle.merge.specs.declared.merge.Counted.TheVariants as C
 
 -- the rows of each source, the topmost first
 abbrev pub sources_of : List ℕ → Sources → List (List Decided)
@@ -132,5 +130,5 @@ pub record Gives (img : List ℕ) (all : Sources) (h : Head) (rest : Sources) : 
   pub settles : Settles img all (merge_of h rest)
 
 -- how many rows there are, if there is room for them
-abbrev pub count_of : ℕ → ℕ → Counted
-count_of n room = cond (ltb room n) C.TooMany (C.Rows n)
+abbrev pub count_of : ℕ → ℕ → Option ℕ
+count_of n room = cond (ltb room n) None (Some n)

@@ -36,13 +36,6 @@ pub struct Merge {
     pub value: Part,
 }
 
-// How many rows there are, or that there is no room for them.
-#[derive(Clone, Copy)]
-pub enum Counted {
-    Rows(usize),
-    TooMany,
-}
-
 pub fn no_sources() -> Sources
     ensures { NoSources result }
 {
@@ -188,8 +181,8 @@ pub fn settle(img: &[u8], all: Sources) -> Merge
     }
 }
 
-// Counts the rows, up to `room`.
-pub fn count_rows(img: &[u8], all: Sources, room: usize) -> Counted
+// How many rows there are; none, if they are more than `room`.
+pub fn count_rows(img: &[u8], all: Sources, room: usize) -> Option<usize>
     requires { Ready img.now all }
     ensures { result ≡ count_of (length (decided_rows img.now all)) room }
 {
@@ -199,10 +192,10 @@ pub fn count_rows(img: &[u8], all: Sources, room: usize) -> Counted
     let mut count: usize = 0;
     while head.more {
         if room <= count {
-            return Counted::TooMany;
+            return None;
         }
         count += 1;
         head = next_given(img, &mut rows, sources);
     }
-    Counted::Rows(count)
+    Some(count)
 }

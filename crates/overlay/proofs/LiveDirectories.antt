@@ -1,12 +1,11 @@
 -- The live directory delta of an inode, as it is read.
 -- Assumes nothing.
-use Rattle.std.specs.Prelude.{None, Option, Some}
+use Rattle.std.specs.Prelude.{Result, Ok, Err, None, Option, Some}
 use mathlib.Core.Path.{◌≡◌, refl, sym, ◌∙◌}
 use mathlib.Core.List.{List}
 use Prim.Native.Nat.{ℕ}
 use lib.ListN.{drop}
-use Rattle.wire.specs.declared.cursor.Cursor.{Cursor}
-use Rattle.wire.specs.declared.cursor.Cursor.TheVariants.{At, Stop}
+use Rattle.wire.specs.declared.fault.Fault.{Fault}
 use Rattle.wire.specs.Parse.{got, never-got}
 use Rattle.image.specs.Meaning.{Record, tombstone}
 use Rattle.image.specs.RecordLayout.{layer_record}
@@ -16,7 +15,7 @@ use Rattle.deltas.specs.declared.delta.NodeDelta.TheVariants.{Directory, File, S
 use Rattle.deltas.specs.declared.delta.EntryDelta.{EntryDelta}
 use Rattle.deltas.specs.declared.delta.EntryDelta.TheVariants as E
 use Rattle.overlay.specs.Directories.{bare_delta, directory_of, IsDirectory, Lives, LivesAt}
-use Rattle.overlay.specs.declared.delta.LiveDirectory.TheVariants as D
+use Rattle.overlay.specs.declared.delta.LiveDelta.{LiveDelta}
 
 -- ---- the live record, read
 
@@ -30,22 +29,30 @@ lives-as img (E.Node (BlockDevice d)) mid q a l = record { is = entry_meant img 
 lives-as img (E.Node (Socket d)) mid q a l = record { is = entry_meant img (E.Node (Socket d)); same = refl; stays = λ D. refl }
 lives-as img E.Tombstone mid q a l = record { is = tombstone; same = refl; stays = λ D. refl }
 
-lives-held : {img : List ℕ} {n : ℕ} {a : Record} {e : EntryDelta} (next : Cursor) → ReadsEntry img (At n) e next → Holds img layer_record.read (Some n) (Some a)
-    → Lives img (directory_of e) (Some a)
-lives-held {img} {n} {a} {e} (At q) r h =
-    let d : got (entry_meant img e) (drop q img) ≡ got a h.0 = sym r.reads.same ∙ h.1 in
-    let z : entry_meant img e ≡ a = cc in
-    rw (← z) (lives-as img e _ q (r.attributes n refl) r.lists)
-lives-held (Stop f) r h = never-got (sym r.reads.same ∙ h.1)
+module _ {img : List ℕ} {at : ℕ} {o : Result (EntryDelta × ℕ) Fault} (r : ReadsEntry img at o) where
+  -- a record was read, as the place holds one
+  pub lives_at : {e : EntryDelta} {q : ℕ} → o ≡ Ok (e, q) → LivesAt img (Some at) (directory_of e)
+  lives_at {e} {q} d = record { lives = go }
+    where
+      w : ReadsEntry img at (Ok (e, q))
+      w = rw d at r
 
-pub lives_at : {img : List ℕ} {n : ℕ} {e : EntryDelta} (next : Cursor) → ReadsEntry img (At n) e next → LivesAt img (Some n) (directory_of e)
-lives_at {img} {n} {e} next r = record { lives = go }
-  where
-    go : (o : Option Record) → Holds img layer_record.read (Some n) o → Lives img (directory_of e) o
-    go None h = absurd h
-    go (Some a) h = lives-held next r h
+      go : (o : Option Record) → Holds img layer_record.read (Some at) o → Lives img (directory_of e) o
+      go None h = absurd h
+      go (Some a) h =
+          let d : got (entry_meant img e) (drop q img) ≡ got a h.0 = sym w.reads.same ∙ h.1 in
+          let z : entry_meant img e ≡ a = cc in
+          rw (← z) (lives-as img e _ q w.attributes w.lists)
 
-pub lives-bare : {img : List ℕ} → LivesAt img None (D.Directory bare_delta)
+  -- none can be read there
+  pub lives_nowhere : {f : Fault} (live : Option LiveDelta) → o ≡ Err f → LivesAt img (Some at) live
+  lives_nowhere live d = record { lives = go }
+    where
+      go : (o : Option Record) → Holds img layer_record.read (Some at) o → Lives img live o
+      go None h = absurd h
+      go (Some a) h = never-got (sym (rw d at r).reads.same ∙ h.1)
+
+pub lives-bare : {img : List ℕ} → LivesAt img None (Some bare_delta)
 lives-bare {img} = record { lives = go }
   where
     go : (o : Option Record) → Holds img layer_record.read None o → IsDirectory img bare_delta o

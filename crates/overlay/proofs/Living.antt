@@ -1,6 +1,6 @@
 -- Changes of one inode's live record: "Insert replaces the live record", "Tombstone replaces it too".
 -- Assumes nothing.
-use Rattle.std.specs.Prelude.{None, Option, Some}
+use Rattle.std.specs.Prelude.{Result, Ok, Err, None, Option, Some}
 use mathlib.Core.Path.{◌≡◌, refl, sym, ap, ◌∙◌}
 use mathlib.Core.Bool.{Bool, true, false, not}
 use mathlib.Core.List.{List, [], ◌∷◌, ◌++◌, append_assoc, append-nil}
@@ -9,9 +9,7 @@ use native.Mathlib.Omega.{arith}
 use lib.ListN.{length, drop, length-drop, drop_of_length-le}
 use lib.Dec.{eqb}
 use borrow.Author.Tests.{eqb-true, eqb-false}
-use Rattle.wire.specs.declared.cursor.Fault.{Fault}
-use Rattle.wire.specs.declared.cursor.Cursor.{Cursor}
-use Rattle.wire.specs.declared.cursor.Cursor.TheVariants.{At, Stop}
+use Rattle.wire.specs.declared.fault.Fault.{Fault}
 use Rattle.wire.specs.Orders.{by_number}
 use Rattle.wire.specs.Maps.{over, get, put}
 use Rattle.wire.specs.Parse.{Parsed, fault, got}
@@ -28,7 +26,7 @@ use Rattle.image.specs.RoundTrip.{write_image}
 use Rattle.deltas.specs.declared.delta.EntryDelta.{EntryDelta}
 use Rattle.deltas.specs.declared.delta.EntryDelta.TheVariants as E
 use Rattle.deltas.specs.declared.delta.NodeDelta.{NodeDelta}
-use Rattle.deltas.specs.Deltas.{ReadsEntry}
+use Rattle.deltas.specs.Deltas.{entry_meant, ReadsEntry}
 use Rattle.writers.specs.Tails.{tail}
 use Rattle.rules.specs.Initial.{usual}
 use Rattle.rules.specs.Calls.{Call}
@@ -41,8 +39,8 @@ use Rattle.change.specs.Sections.{Stands, tail_of}
 use Rattle.change.specs.Cuts.{row_here, rows_bytes, under_first, count_after, CutIs, CutsRecords}
 use Rattle.change.specs.Edits.{row_if, edit_rows, put_all}
 use Rattle.change.specs.Splices.{Splices}
-use Rattle.change.specs.declared.answer.ChangeAnswer.{ChangeAnswer}
-use Rattle.change.specs.declared.answer.ChangeAnswer.TheVariants as A
+use Rattle.survey.specs.declared.refusal.Refusal.{Refusal}
+use Rattle.survey.specs.declared.refusal.Refusal.TheVariants.{BadArgument}
 use Rattle.change.specs.declared.cut.Cut.{Cut}
 use Rattle.change.specs.declared.section.Sections.{Sections}
 use Rattle.overlay.specs.NewRecords.{record_row, record_pieces, edited_image, lead_in, one_image, edit_at, replaced_of, unchanged_of}
@@ -59,7 +57,7 @@ use Rattle.image.proofs.OneForm.{layer_record-one}
 
 -- ---- whether one construct was given, and no more
 
-module _ {A : Type 0} (c : Codec A) {given : List ℕ} {a : A} {q : ℕ} (r : Reads given c.read (At 0) a (At q)) where
+module _ {A : Type 0} (c : Codec A) {given : List ℕ} {a : A} {q : ℕ} (r : Reads given c.read 0 (Ok (a, q))) where
   pub read_whole : q ≡ length given → if_read (decode c given) ≡ Some a
   unfolding decode
   read_whole h = rw (r.same, drop_of_length-le given {i = q} (omega (arith, h)))
@@ -72,40 +70,35 @@ module _ {A : Type 0} (c : Codec A) {given : List ℕ} {a : A} {q : ℕ} (r : Re
       go [] h = absurd (omega arith)
       go (x ∷ t) h = refl
 
-module _ {given : List ℕ} {a : Record} {next : Cursor} (r : Reads given layer_record.read (At 0) a next) where
+module _ {given : List ℕ} {o : Result (EntryDelta × ℕ) Fault} (r : ReadsEntry given 0 o) where
   -- not all was read
-  pub given-broken : {f : Fault} → next ≡ Stop f → true ≡ no_delta (given_record given)
+  pub given-broken : {f : Fault} → o ≡ Err f → true ≡ no_delta (given_record given)
   unfolding decode
-  given-broken e = rw (rw e at r).same
+  given-broken d = rw (rw d at r).reads.same
 
-  module _ {q : ℕ} (e : next ≡ At q) where
-    given-whole : q ≡ length given → given_record given ≡ Some a
-    given-whole = read_whole layer_record (rw e at r)
+  module _ {e : EntryDelta} {q : ℕ} (d : o ≡ Ok (e, q)) where
+    read : Reads given layer_record.read 0 (Ok (entry_meant given e, q))
+    read = (rw d at r).reads
 
-    given-longer : (q ≡ length given → ⊥) → given_record given ≡ None
-    given-longer = read-longer layer_record (rw e at r)
-
-    given-by-end : no_delta (Some a) ≡ false → not (eqb q (length given)) ≡ no_delta (given_record given)
+    given-by-end : no_delta (Some (entry_meant given e)) ≡ false → not (eqb q (length given)) ≡ no_delta (given_record given)
     given-by-end h = go (eqb q (length given)) refl
       where
         go : (b : Bool) → eqb q (length given) ≡ b → not b ≡ no_delta (given_record given)
-        go true d = rw (given-whole (eqb-true q (length given) d)) (sym h)
-        go false d = rw (given-longer (eqb-false q (length given) d))
+        go true d = rw (read_whole layer_record read (eqb-true q (length given) d)) (sym h)
+        go false d = rw (read-longer layer_record read (eqb-false q (length given) d))
 
-    given-by-none : no_delta (Some a) ≡ true → true ≡ no_delta (given_record given)
+    given-by-none : no_delta (Some (entry_meant given e)) ≡ true → true ≡ no_delta (given_record given)
     given-by-none h = go (eqb q (length given)) refl
       where
         go : (b : Bool) → eqb q (length given) ≡ b → true ≡ no_delta (given_record given)
-        go true d = rw (given-whole (eqb-true q (length given) d)) (sym h)
-        go false d = rw (given-longer (eqb-false q (length given) d))
+        go true d = rw (read_whole layer_record read (eqb-true q (length given) d)) (sym h)
+        go false d = rw (read-longer layer_record read (eqb-false q (length given) d))
 
-pub given-delta : {given : List ℕ} {entry : EntryDelta} {n : NodeDelta} {next : Cursor} {q : ℕ} → ReadsEntry given (At 0) entry next → entry ≡ E.Node n → next ≡ At q
-    → not (eqb q (length given)) ≡ no_delta (given_record given)
-given-delta r d e = given-by-end (rw d at r.reads) e refl
+    pub given-delta : {n : NodeDelta} → e ≡ E.Node n → not (eqb q (length given)) ≡ no_delta (given_record given)
+    given-delta {n} z = given-by-end (rw z)
 
-pub given-tombstone : {given : List ℕ} {entry : EntryDelta} {next : Cursor} {q : ℕ} → ReadsEntry given (At 0) entry next → entry ≡ E.Tombstone → next ≡ At q
-    → true ≡ no_delta (given_record given)
-given-tombstone r d e = given-by-none (rw d at r.reads) e refl
+    pub given-tombstone : e ≡ E.Tombstone → true ≡ no_delta (given_record given)
+    given-tombstone z = given-by-none (rw z)
 
 -- ---- the new image
 
@@ -171,7 +164,7 @@ module _ {img : List ℕ} {p : Sections} {s : Store} (w : Stands img p s) where
 -- ---- "Tombstone replaces it too"
 
 module _ {img : List ℕ} {p : Sections} {s : Store} (w : Stands img p s) {i : ℕ} {cut : Cut} (c : CutsRecords img p.live i cut) where
-  pub tombstone-made : {n : NewLive} {old new : List ℕ} {answer : ChangeAnswer} → n ≡ replaced_of cut i N.Tombstone
+  pub tombstone-made : {n : NewLive} {old new : List ℕ} {answer : Result ℕ Refusal} → n ≡ replaced_of cut i N.Tombstone
       → Changes (if_fits (one_image img img img p n) (length old)) old answer new → Changes (tombstoned usual img i (length old)) old answer new
   unfolding result
   tombstone-made e =
@@ -180,7 +173,7 @@ module _ {img : List ℕ} {p : Sections} {s : Store} (w : Stands img p s) {i : �
 
   -- ---- "Insert replaces the live record"
 
-  pub insert-made : (given : List ℕ) {n : NewLive} {old new : List ℕ} {answer : ChangeAnswer} → no_delta (given_record given) ≡ false
+  pub insert-made : (given : List ℕ) {n : NewLive} {old new : List ℕ} {answer : Result ℕ Refusal} → no_delta (given_record given) ≡ false
       → n ≡ replaced_of cut i N.Given
       → Changes (if_fits (one_image img given given p n) (length old)) old answer new → Changes (insert_new_node usual img i given (length old)) old answer new
   unfolding result
@@ -195,5 +188,5 @@ module _ {img : List ℕ} {p : Sections} {s : Store} (w : Stands img p s) {i : �
           (ap (one_image img given given p) q ∙ replaced-image w c given given N.Given (delta d) (ap (λ (t : List ℕ). number_bytes i ++ t) g) ∙ rw e) k
 
 pub insert-refused : {img : List ℕ} {p : Sections} {s : Store} (i : ℕ) → Stands img p s → (given : List ℕ) {old : List ℕ} → no_delta (given_record given) ≡ true
-    → Changes (insert_new_node usual img i given (length old)) old (A.Refused 4) old
+    → Changes (insert_new_node usual img i given (length old)) old (Err BadArgument) old
 insert-refused i w given h = changes-refused (Call.insert i (given_record given)) w (rw h)

@@ -19,8 +19,6 @@ use Rattle.deltas.specs.declared.delta.EntryDelta.{EntryDelta}
 use Rattle.deltas.specs.declared.delta.EntryDelta.TheVariants as E
 use Rattle.rules.specs.Changes.{DirectoryChange, on_delta, on_directory}
 use Rattle.overlay.specs.declared.delta.LiveDelta.{LiveDelta}
-use Rattle.overlay.specs.declared.delta.LiveDirectory.{LiveDirectory}
-use Rattle.overlay.specs.declared.delta.LiveDirectory.TheVariants as D
 
 -- ---- what the code makes of a record
 
@@ -35,18 +33,18 @@ bare_delta = record {
   removed = None;
 }
 
-abbrev pub node_directory : NodeDelta → LiveDirectory
-node_directory (Directory d) = D.Directory (whole_of d)
-node_directory (File d) = D.Other
-node_directory (Symlink d) = D.Other
-node_directory (Fifo d) = D.Other
-node_directory (CharDevice d) = D.Other
-node_directory (BlockDevice d) = D.Other
-node_directory (Socket d) = D.Other
+abbrev pub node_directory : NodeDelta → Option LiveDelta
+node_directory (Directory d) = Some (whole_of d)
+node_directory (File d) = None
+node_directory (Symlink d) = None
+node_directory (Fifo d) = None
+node_directory (CharDevice d) = None
+node_directory (BlockDevice d) = None
+node_directory (Socket d) = None
 
-abbrev pub directory_of : EntryDelta → LiveDirectory
+abbrev pub directory_of : EntryDelta → Option LiveDelta
 directory_of (E.Node n) = node_directory n
-directory_of E.Tombstone = D.Other
+directory_of E.Tombstone = None
 
 -- ---- what it means
 
@@ -68,10 +66,10 @@ pub record IsOther (o : Option Record) : Type 0 where
   pub same : o ≡ Some is
   pub stays : (D : DirectoryChange) → on_directory D o ≡ Some is
 
-abbrev pub Lives : List ℕ → LiveDirectory → Option Record → Type 0
-Lives img (D.Directory d) o = IsDirectory img d o
-Lives img D.Other o = IsOther o
+abbrev pub Lives : List ℕ → Option LiveDelta → Option Record → Type 0
+Lives img (Some d) o = IsDirectory img d o
+Lives img None o = IsOther o
 
 -- of the record that the place holds
-pub record LivesAt (img : List ℕ) (place : Option ℕ) (r : LiveDirectory) : Type 0 where
+pub record LivesAt (img : List ℕ) (place : Option ℕ) (r : Option LiveDelta) : Type 0 where
   pub lives : (o : Option Record) → Holds img layer_record.read place o → Lives img r o

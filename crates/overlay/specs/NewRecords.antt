@@ -1,5 +1,5 @@
 -- Images with other live records: parts of the old image, and what is new.
-use Rattle.std.specs.Prelude.{true, cond, List, [], ◌∷◌, ◌++◌, ℕ, leb, eqb, length}
+use Rattle.std.specs.Prelude.{Result, true, cond, List, [], ◌∷◌, ◌++◌, ℕ, leb, eqb, length}
 use Rattle.wire.specs.Number.{number_bytes}
 use Rattle.wire.specs.Put.{Put}
 use Rattle.image.specs.Masks.{maybe}
@@ -11,7 +11,7 @@ use Rattle.change.specs.Changed.{Changes, if_fits}
 use Rattle.change.specs.Cuts.{count_after}
 use Rattle.change.specs.Splices.{Piece, spliced}
 use Rattle.meld.specs.Merged.{changes_anew}
-use Rattle.change.specs.declared.answer.ChangeAnswer.{ChangeAnswer}
+use Rattle.survey.specs.declared.refusal.Refusal.{Refusal}
 use Rattle.change.specs.declared.section.Sections.{Sections}
 use Rattle.change.specs.declared.cut.Cut.{Cut}
 use Rattle.overlay.specs.NewLists.{list_bytes}
@@ -102,10 +102,10 @@ abbrev pub new_image : List ℕ → List ℕ → List ℕ → Sections → NewRe
 new_image img given newName p n = edited_image img given newName (lead_in p n.count n.first) (edits_of n)
 
 -- the new image is written to the target, or there is no room and nothing is
-abbrev pub WritesOne : List ℕ → List ℕ → List ℕ → Sections → NewLive → List ℕ → ChangeAnswer → List ℕ → Type 0
+abbrev pub WritesOne : List ℕ → List ℕ → List ℕ → Sections → NewLive → List ℕ → Result ℕ Refusal → List ℕ → Type 0
 WritesOne img given newName p n old r new = Changes (if_fits (one_image img given newName p n) (length old)) old r new
 
-abbrev pub WritesAll : List ℕ → List ℕ → List ℕ → Sections → NewRecords → List ℕ → ChangeAnswer → List ℕ → Type 0
+abbrev pub WritesAll : List ℕ → List ℕ → List ℕ → Sections → NewRecords → List ℕ → Result ℕ Refusal → List ℕ → Type 0
 WritesAll img given newName p n old r new = Changes (if_fits (new_image img given newName p n) (length old)) old r new
 
 -- another record of the inode where the records are cut

@@ -2,10 +2,9 @@
 ghost use Rattle.std.specs.Prelude.{◌≡◌};
 ghost use Rattle.overlay.specs.Directories.{directory_of, node_directory, whole_of, bare_delta, LivesAt};
 
-use wire::text::Part;
 use deltas::delta::{DirectoryDelta, EntryDelta, NodeDelta, read_entry_delta};
 use nodes::attr::AttrDelta;
-use wire::cursor::Cursor;
+use wire::text::Part;
 
 // A directory delta. A list that isn't there is empty.
 #[derive(Clone, Copy)]
@@ -16,48 +15,42 @@ pub struct LiveDelta {
     pub removed: Option<Part>,
 }
 
-// What add entry, remove entry and set parent act on.
-#[derive(Clone, Copy)]
-pub enum LiveDirectory {
-    Directory(LiveDelta),
-    // a record of another sort, on which they do nothing
-    Other,
-}
-
-// The record at a place; where there is none, an empty directory delta.
-pub fn live_directory(img: &[u8], place: Option<usize>) -> LiveDirectory
+// The record at a place, if add entry, remove entry and set parent act on it: they do nothing on one of another sort.
+// Where there is none, an empty directory delta.
+pub fn live_directory(img: &[u8], place: Option<usize>) -> Option<LiveDelta>
     ensures { LivesAt img.now place result }
 {
     match place {
         Some(at) => {
-            let read = read_entry_delta(img, Cursor::At(at));
-            let delta = read.delta;
+            let Ok((delta, _)) = read_entry_delta(img, at) else {
+                return None;
+            };
             directory_of(delta)
         }
-        None => LiveDirectory::Directory(bare_delta()),
+        None => Some(bare_delta()),
     }
 }
 
-fn directory_of(delta: EntryDelta) -> LiveDirectory
+fn directory_of(delta: EntryDelta) -> Option<LiveDelta>
     ensures { result ≡ directory_of delta }
 {
     match delta {
         EntryDelta::Node(node) => node_directory(node),
-        EntryDelta::Tombstone => LiveDirectory::Other,
+        EntryDelta::Tombstone => None,
     }
 }
 
-fn node_directory(node: NodeDelta) -> LiveDirectory
+fn node_directory(node: NodeDelta) -> Option<LiveDelta>
     ensures { result ≡ node_directory node }
 {
     match node {
-        NodeDelta::Directory(directory) => LiveDirectory::Directory(whole_delta(directory)),
-        NodeDelta::File(_) => LiveDirectory::Other,
-        NodeDelta::Symlink(_) => LiveDirectory::Other,
-        NodeDelta::Fifo(_) => LiveDirectory::Other,
-        NodeDelta::CharDevice(_) => LiveDirectory::Other,
-        NodeDelta::BlockDevice(_) => LiveDirectory::Other,
-        NodeDelta::Socket(_) => LiveDirectory::Other,
+        NodeDelta::Directory(directory) => Some(whole_delta(directory)),
+        NodeDelta::File(_) => None,
+        NodeDelta::Symlink(_) => None,
+        NodeDelta::Fifo(_) => None,
+        NodeDelta::CharDevice(_) => None,
+        NodeDelta::BlockDevice(_) => None,
+        NodeDelta::Socket(_) => None,
     }
 }
 
@@ -65,15 +58,11 @@ fn node_directory(node: NodeDelta) -> LiveDirectory
 fn whole_delta(directory: DirectoryDelta) -> LiveDelta
     ensures { result ≡ whole_of directory }
 {
-    let attr_delta = directory.attr_delta;
-    let parent = directory.parent;
-    let added = directory.added;
-    let removed = directory.removed;
     LiveDelta {
-        attr_delta,
-        parent,
-        added: Some(added),
-        removed: Some(removed),
+        attr_delta: directory.attr_delta,
+        parent: directory.parent,
+        added: Some(directory.added),
+        removed: Some(directory.removed),
     }
 }
 

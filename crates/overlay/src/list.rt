@@ -3,10 +3,10 @@ ghost use Rattle.std.specs.Prelude.{◌≡◌};
 ghost use Rattle.wire.specs.Put.{Put};
 ghost use Rattle.overlay.specs.NewLists.{row_bytes, changed_bytes, list_bytes, kept_of};
 
-use wire::text::{Part, put_text};
 use change::copy::put_between;
 use wire::number::put_number;
 use wire::put::put_part;
+use wire::text::{Part, put_text};
 
 // The row of a name, afterwards.
 #[derive(Clone, Copy)]

@@ -7,38 +7,34 @@ ghost use Rattle.change.specs.Changed.{Changes};
 
 use crate::record::NewRecord;
 use crate::write::{replaced, write_record};
-use change::answer::ChangeAnswer;
 use change::cut::cut_records;
 use change::section::open_sections;
 use deltas::delta::{EntryDelta, read_entry_delta};
-use wire::cursor::Cursor;
+use survey::refusal::Refusal;
 
 // Replaces the live record by the delta given, a record from its code on.
-pub fn insert_new_node(img: &[u8], ino: u64, delta: &[u8], target: &mut [u8]) -> ChangeAnswer
+pub fn insert_new_node(
+    img: &[u8],
+    ino: u64,
+    delta: &[u8],
+    target: &mut [u8],
+) -> Result<usize, Refusal>
     ensures { Changes (insert_new_node usual img.now ino delta.now (length target.old)) target.old result target.new }
 {
-    let opened = open_sections(img);
-    if opened.refusal != 0 {
-        return ChangeAnswer::Refused(opened.refusal);
-    }
+    let sections = open_sections(img)?;
     if no_delta(delta) {
-        return ChangeAnswer::Refused(4);
+        return Err(Refusal::BadArgument);
     }
-    let sections = opened.sections;
     let cut = cut_records(img, sections.live, ino);
     let new = replaced(cut, ino, NewRecord::Given);
     write_record(img, delta, delta, sections, new, target)
 }
 
 // Replaces the live record by a tombstone.
-pub fn tombstone(img: &[u8], ino: u64, target: &mut [u8]) -> ChangeAnswer
+pub fn tombstone(img: &[u8], ino: u64, target: &mut [u8]) -> Result<usize, Refusal>
     ensures { Changes (tombstoned usual img.now ino (length target.old)) target.old result target.new }
 {
-    let opened = open_sections(img);
-    if opened.refusal != 0 {
-        return ChangeAnswer::Refused(opened.refusal);
-    }
-    let sections = opened.sections;
+    let sections = open_sections(img)?;
     let cut = cut_records(img, sections.live, ino);
     let new = replaced(cut, ino, NewRecord::Tombstone);
     write_record(img, img, img, sections, new, target)
@@ -48,10 +44,7 @@ pub fn tombstone(img: &[u8], ino: u64, target: &mut [u8]) -> ChangeAnswer
 fn no_delta(given: &[u8]) -> bool
     ensures { result ≡ no_delta (given_record given.now) }
 {
-    let read = read_entry_delta(given, Cursor::At(0));
-    let next = read.next;
-    let delta = read.delta;
-    let Cursor::At(end) = next else {
+    let Ok((delta, end)) = read_entry_delta(given, 0) else {
         return true;
     };
     match delta {

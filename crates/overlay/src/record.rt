@@ -5,7 +5,6 @@ ghost use Rattle.wire.specs.Combinators.{opt_write};
 ghost use Rattle.image.specs.FieldLayout.{inode as inodeCodec};
 ghost use Rattle.overlay.specs.NewRecords.{directory_bytes, bare_bytes, change_bytes, updated_bytes, lead_bytes, edit_bytes};
 
-use wire::text::Part;
 use crate::list::{NewList, put_list};
 use change::copy::put_between;
 use meld::merged::put_changes;
@@ -13,6 +12,7 @@ use nodes::attr::AttrDelta;
 use records::write_node::put_list_if;
 use wire::number::put_number;
 use wire::put::put_bytes;
+use wire::text::Part;
 use writers::write::put_maybe_number;
 use writers::write_attr::put_attr_delta;
 

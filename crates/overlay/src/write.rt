@@ -4,10 +4,11 @@ ghost use Rattle.wire.specs.Lists.{last_count};
 ghost use Rattle.overlay.specs.NewRecords.{lead_in, Puts, WritesOne, WritesAll, edits_of, replaced_of, unchanged_of};
 
 use crate::record::{Edit, Head, Lead, NewRecord, put_edit};
-use change::answer::{ChangeAnswer, lacks_room};
+use change::answer::lacks_room;
 use change::copy::put_between;
 use change::cut::{Cut, count_after};
 use change::section::Sections;
+use survey::refusal::Refusal;
 
 // The live records afterwards: `count` of them, and those from `first` on with one changed.
 #[derive(Clone, Copy)]
@@ -34,9 +35,8 @@ pub fn replaced(cut: Cut, ino: u64, new: NewRecord) -> NewLive
     requires { cut.count ≤ last_count }
     ensures { result ≡ replaced_of cut ino new }
 {
-    let place = cut.place;
     NewLive {
-        count: count_after(cut.count, place, true),
+        count: count_after(cut.count, cut.place, true),
         first: cut.first,
         edit: Edit {
             inode: ino,
@@ -72,7 +72,7 @@ pub fn write_record(
     sections: Sections,
     new: NewLive,
     target: &mut [u8],
-) -> ChangeAnswer
+) -> Result<usize, Refusal>
     ensures { WritesOne img.now given.now new_name.now sections new target.old result target.new }
 {
     let edit = new.edit;
@@ -80,10 +80,10 @@ pub fn write_record(
     let mut none = [0u8; 0];
     let size = put_image(&mut none, 0, img, given, new_name, lead, edit);
     if lacks_room(size, target.len()) {
-        return ChangeAnswer::Refused(5);
+        return Err(Refusal::NoRoom);
     }
     let end = put_image(target, 0, img, given, new_name, lead, edit);
-    ChangeAnswer::Length(end)
+    Ok(end)
 }
 
 // The same with up to four records changed.
@@ -94,17 +94,17 @@ pub fn write_records(
     sections: Sections,
     new: NewRecords,
     target: &mut [u8],
-) -> ChangeAnswer
+) -> Result<usize, Refusal>
     ensures { WritesAll img.now given.now new_name.now sections new target.old result target.new }
 {
     let lead = lead_in(sections, new.count, new.first);
     let mut none = [0u8; 0];
     let size = put_images(&mut none, 0, img, given, new_name, lead, new);
     if lacks_room(size, target.len()) {
-        return ChangeAnswer::Refused(5);
+        return Err(Refusal::NoRoom);
     }
     let end = put_images(target, 0, img, given, new_name, lead, new);
-    ChangeAnswer::Length(end)
+    Ok(end)
 }
 
 fn lead_in(sections: Sections, count: u64, first: usize) -> Lead

@@ -1,6 +1,6 @@
 -- Freeze: its refusals in order, and live as one batch more.
 -- Assumes nothing.
-use Rattle.std.specs.Prelude.{None}
+use Rattle.std.specs.Prelude.{None, Result, Ok, Err}
 use mathlib.Core.Path.{◌≡◌, refl, sym, ap, ◌∙◌}
 use mathlib.Core.Bool.{true, false}
 use mathlib.Core.List.{List, [], ◌∷◌, ◌++◌, append-nil, append_assoc}
@@ -8,14 +8,14 @@ use Prim.Native.Nat.{ℕ, zero, suc, ◌+◌, ◌≤◌, ◌<◌}
 use native.Mathlib.Omega.{arith}
 use lib.ListN.{length, drop, length-append, drop_of_length-le}
 use borrow.Author.Tests.{le-leb, lt-leb, eq-eqb, ne_eqb}
-use Rattle.wire.specs.declared.cursor.Cursor.{Cursor}
-use Rattle.wire.specs.declared.cursor.Cursor.TheVariants.{At}
+use Rattle.std.specs.Result.{result_unwrap_or}
+use Rattle.wire.specs.declared.fault.Fault.{Fault}
 use Rattle.wire.specs.declared.time.Time.{Time}
 use Rattle.wire.specs.Number.{edge, number_bytes, number_read, number_to}
 use Rattle.wire.specs.Orders.{by_number}
 use Rattle.wire.specs.Maps.{empty}
 use Rattle.wire.specs.Lists.{chain_write, row, onto, last_count}
-use Rattle.wire.specs.Reading.{Reads, Answers, place_at}
+use Rattle.wire.specs.Reading.{Reads, meant}
 use Rattle.image.specs.Meaning.{Batch, Store}
 use Rattle.image.specs.FieldLayout.{inode}
 use Rattle.image.specs.NodeLayout.{base}
@@ -39,16 +39,16 @@ use Rattle.change.specs.Batches.{HeadParts}
 use Rattle.waiting.specs.Queues.{head_bytes, head_operations, sum_from, QueueAt, at_capacity, frozen_head, tail_after_id}
 use Rattle.change.specs.Sections.{between}
 use Rattle.waiting.specs.NewQueues.{refrozen}
-use Rattle.change.specs.declared.answer.ChangeAnswer.{ChangeAnswer}
-use Rattle.change.specs.declared.answer.ChangeAnswer.TheVariants as A
+use Rattle.survey.specs.declared.refusal.Refusal.{Refusal}
+use Rattle.survey.specs.declared.refusal.Refusal.TheVariants as D
 use Rattle.waiting.specs.declared.batch.Queue.{Queue}
 use Rattle.change.specs.declared.section.Sections.{Sections}
-use Rattle.change.proofs.Sections.{span-part, span-front, span-reads, store_bytes, stands-fits}
+use Rattle.change.proofs.Sections.{span-part, span-front, span-reads, same_Ok, value-ok, store_bytes, stands-fits}
 use Rattle.change.proofs.Finishing.{changes-refused, changes-made}
 use Rattle.queue.proofs.Staging.{stands-tail}
 use Rattle.change.proofs.Batches.{head_of, batch_bytes, queue_bytes, batches-bytes, queue-more}
 use Rattle.waiting.proofs.Queues.{sum-queue}
-use Rattle.change.proofs.Queued.{stands-count, stands-queue}
+use Rattle.change.proofs.Queued.{stands-counted, stands-count, stands-queue}
 
 not-empty : {A : Type 0} (l : List A) → (length l ≡ 0 → ⊥) → is_empty l ≡ false
 not-empty [] h = absurd (h refl)
@@ -88,41 +88,57 @@ frozen-bytes time s =
 
 -- ---- the call
 
+-- the count of live records
+pub live-read : {img : List ℕ} {p : Sections} {s : Store} → Stands img p s → {o : Result (ℕ × ℕ) Fault} → Reads img (number_read last_count) p.live o
+    → o ≡ Ok (length s.live.rows, p.live + length (number_bytes (length s.live.rows)))
+live-read {s = s} w l =
+    span-reads (number_to last_count refl)
+    (span-front (number_bytes (length s.live.rows)) (chain_write (row by_number inode layer_record) (onto by_number inode layer_record) None s.live.rows) w.live)
+    (omega (arith, (stands-fits w).live.count)) l
+
 module _ {img : List ℕ} {p : Sections} {s : Store} (w : Stands img p s) (depth bytes operations : ℕ) (time : Time) where
   abbrev limits : Limits
   limits = record { batches = depth; bytes = bytes; operations = operations }
 
   pub freeze-time : {old : List ℕ} → 1000000000 ≤ time.nanos
-      → Changes (freeze_live usual img depth bytes operations time (length old)) old (A.Refused 4) old
+      → Changes (freeze_live usual img depth bytes operations time (length old)) old (Err D.BadArgument) old
   freeze-time h = changes-refused (Call.freeze limits time) w (rw (le-leb 1000000000 time.nanos h))
 
   module _ (ok : time.nanos < 1000000000) {queue : Queue} (k : QueueAt img p.batches queue) where
-    sum_is : (g : HeadParts → ℕ) → sum_from g queue.count (drop (place_at k.first) img) ≡ sum_of (λ b. g (head_of b)) s.batches
-    sum_is g =
-        rw ((stands-queue w k.first k.count).is, stands-count w k.first k.count) (sum-queue g s.batches (drop p.live img) (stands-fits w).batches.each)
+    abbrev place : ℕ × ℕ
+    place = result_unwrap_or k.count (0, 0)
+
+    placed : k.count ≡ Ok place
+    placed = value-ok (0, 0) (stands-counted w k.reads) refl
+
+    counted : queue.count ≡ length s.batches
+    counted = k.totals.counts ∙ stands-count w k.reads placed
+
+    sum_is : (g : HeadParts → ℕ) → sum_from g place.0 (drop place.1 img) ≡ sum_of (λ b. g (head_of b)) s.batches
+    sum_is g = rw ((stands-queue w k.reads placed).is, stands-count w k.reads placed) (sum-queue g s.batches (drop p.live img) (stands-fits w).batches.each)
 
     full_is : is_full limits s.batches ≡ at_capacity queue depth bytes operations
-    full_is = rw (k.totals.bytes, k.totals.operations, sum_is head_bytes, sum_is head_operations, stands-count w k.first k.count)
+    full_is = rw (k.totals.bytes, k.totals.operations, sum_is head_bytes, sum_is head_operations, counted)
 
     pub freeze-full : {old : List ℕ} → at_capacity queue depth bytes operations ≡ true
-        → Changes (freeze_live usual img depth bytes operations time (length old)) old (A.Refused 6) old
+        → Changes (freeze_live usual img depth bytes operations time (length old)) old (Err D.AtCapacity) old
     freeze-full h = changes-refused (Call.freeze limits time) w (rw (lt-leb 1000000000 time.nanos ok, full_is, h))
 
-    module _ (h : at_capacity queue depth bytes operations ≡ false) {m : ℕ} (after : Cursor) (l : Answers img (number_read last_count) (At p.live) 0 m after) where
-      live-count : m ≡ length s.live.rows
-      live-count =
-          (span-reads (number_to last_count refl)
-          (span-front (number_bytes (length s.live.rows)) (chain_write (row by_number inode layer_record) (onto by_number inode layer_record) None s.live.rows) w.live)
-          (omega (arith, (stands-fits w).live.count)) after l.reads).0
+    module _ (h : at_capacity queue depth bytes operations ≡ false) {o : Result (ℕ × ℕ) Fault} (l : Reads img (number_read last_count) p.live o) {x : ℕ × ℕ} (y : o ≡ Ok x) where
+      live-count : x.0 ≡ length s.live.rows
+      live-count = ap (λ (x : ℕ × ℕ). x.0) (same_Ok (sym y ∙ live-read w l))
 
-      pub freeze-empty : {old : List ℕ} → m ≡ 0 → Changes (freeze_live usual img depth bytes operations time (length old)) old (A.Refused 7) old
+      pub freeze-empty : {old : List ℕ} → x.0 ≡ 0 → Changes (freeze_live usual img depth bytes operations time (length old)) old (Err D.LiveEmpty) old
       freeze-empty z =
           changes-refused (Call.freeze limits time) w
           (rw (lt-leb 1000000000 time.nanos ok, full_is, h, drop_of_length-le s.live.rows {i = 0} (omega (arith, live-count, z))))
 
-      module _ (some-live : m ≡ 0 → ⊥) {staged : Tail} (end : Cursor) (r : Reads img tail.read (At p.tail) (tail_meant staged) end) where
+      module _ (some-live : x.0 ≡ 0 → ⊥) {u : Result (Tail × ℕ) Fault} (r : Reads img tail.read p.tail (meant tail_meant u)) {v : Tail × ℕ} (z : u ≡ Ok v) where
+        abbrev staged : Tail
+        staged = v.0
+
         staged-is : tail_meant staged ≡ tail_of s
-        staged-is = stands-tail w end r
+        staged-is = stands-tail w u r z
 
         live-not : is_empty s.live.rows ≡ false
         live-not = not-empty s.live.rows (λ z. some-live (live-count ∙ z))
@@ -131,28 +147,28 @@ module _ {img : List ℕ} {p : Sections} {s : Store} (w : Stands img p s) (depth
         next-is = ap (λ (x : TailParts). x.0) staged-is
 
         pub freeze-last : {old : List ℕ} → staged.next_id ≡ edge
-            → Changes (freeze_live usual img depth bytes operations time (length old)) old (A.Refused 10) old
-        freeze-last z =
+            → Changes (freeze_live usual img depth bytes operations time (length old)) old (Err D.CountFull) old
+        freeze-last e =
             changes-refused (Call.freeze limits time) w
-            (rw (lt-leb 1000000000 time.nanos ok, full_is, h, live-not, eq-eqb s.next edge (sym next-is ∙ z)))
+            (rw (lt-leb 1000000000 time.nanos ok, full_is, h, live-not, eq-eqb s.next edge (sym next-is ∙ e)))
 
         made_bytes : {head : BatchHead} {later : Tail} → head_meant head ≡ frozen_head (tail_meant staged) time → tail_meant later ≡ tail_after_id staged.next_id
             → refrozen img p (record { first = queue.first; count = queue.count + 1; head = head; tail = later })
             ≡ base.write s.base ++ (number_bytes (length s.batches + 1) ++ (queue_bytes s.batches
             ++ (batch_head.write (frozen_head (tail_of s) time) ++ (records.write s.live ++ (number_bytes 0 ++ tail.write (tail_after_id s.next))))))
         made_bytes eh et =
-            let n = ap (λ (m : ℕ). m + 1) (stands-count w k.first k.count) in
-            let q = ap (λ (m : ℕ). between img m p.live) k.totals.from ∙ span-part (stands-queue w k.first k.count) in
+            let n = ap (λ (m : ℕ). m + 1) counted in
+            let q = ap (λ (m : ℕ). between img m p.live) k.totals.from ∙ span-part (stands-queue w k.reads placed) in
             let h = eh ∙ ap (λ (x : TailParts). frozen_head x time) staged-is in
             let l = et ∙ ap tail_after_id next-is in
             λ i. span-part w.base i ++ (number_bytes (n i) ++ (q i ++ (batch_head.write (h i) ++ (span-part w.live i ++ (number_bytes 0 ++ tail.write (l i))))))
 
-        pub freeze-made : {old new : List ℕ} {answer : ChangeAnswer} {head : BatchHead} {later : Tail} → (staged.next_id ≡ edge → ⊥)
+        pub freeze-made : {old new : List ℕ} {answer : Result ℕ Refusal} {head : BatchHead} {later : Tail} → (staged.next_id ≡ edge → ⊥)
             → head_meant head ≡ frozen_head (tail_meant staged) time → tail_meant later ≡ tail_after_id staged.next_id
             → Changes (if_fits (refrozen img p (record { first = queue.first; count = queue.count + 1; head = head; tail = later })) (length old)) old answer new
             → Changes (freeze_live usual img depth bytes operations time (length old)) old answer new
         unfolding result
-        freeze-made {head = head} {later} z eh et =
+        freeze-made {head = head} {later} n eh et =
             changes-made (Call.freeze limits time) w {bytes = refrozen img p (record { first = queue.first; count = queue.count + 1; head = head; tail = later })}
-            (rw (lt-leb 1000000000 time.nanos ok, full_is, h, live-not, ne_eqb s.next edge (λ y. z (next-is ∙ y))))
+            (rw (lt-leb 1000000000 time.nanos ok, full_is, h, live-not, ne_eqb s.next edge (λ y. n (next-is ∙ y))))
             (made_bytes eh et ∙ sym (frozen-bytes time s))

@@ -7,9 +7,9 @@ use Prim.Native.Nat.{ℕ, ◌+◌, ◌≤◌, ◌<◌}
 use native.Mathlib.Omega.{arith}
 use lib.ListN.{length}
 use borrow.Author.Tests.{lt-ltb, le-ltb, ltb-false}
-use Rattle.wire.specs.declared.cursor.Cursor.{Cursor}
-use Rattle.wire.specs.declared.cursor.Cursor.TheVariants.{At}
-use Rattle.wire.specs.Reading.{Reads}
+use Rattle.std.specs.Prelude.{Result, Ok, Err, IsOk}
+use Rattle.wire.specs.declared.fault.Fault.{Fault}
+use Rattle.wire.specs.Reading.{Reads, meant}
 use Rattle.image.specs.Meaning.{Store}
 use Rattle.image.specs.NodeLayout.{base}
 use Rattle.image.specs.RecordLayout.{records}
@@ -27,10 +27,10 @@ use Rattle.change.specs.Changed.{Changes, if_fits}
 use Rattle.change.specs.Sections.{tail_of, Stands}
 use Rattle.change.specs.Sections.{between}
 use Rattle.waiting.specs.NewQueues.{restaged}
-use Rattle.change.specs.declared.answer.ChangeAnswer.{ChangeAnswer}
-use Rattle.change.specs.declared.answer.ChangeAnswer.TheVariants as A
+use Rattle.survey.specs.declared.refusal.Refusal.{Refusal}
+use Rattle.survey.specs.declared.refusal.Refusal.TheVariants as D
 use Rattle.change.specs.declared.section.Sections.{Sections}
-use Rattle.change.proofs.Sections.{span-part, span-both, span-reads, store_bytes}
+use Rattle.change.proofs.Sections.{span-part, span-both, span-ok, span-value, store_bytes}
 use Rattle.change.proofs.Splicing.{three-first}
 use Rattle.change.proofs.Finishing.{changes-refused, changes-made}
 
@@ -58,38 +58,43 @@ module _ {img : List ℕ} {p : Sections} {s : Store} (w : Stands img p s) where
       ∙ sym (store_bytes (retailed (tail_meant t) s))
 
   -- what is read there
-  pub stands-tail : {t : TailParts} (next : Cursor) → Reads img tail.read (At p.tail) t next → t ≡ tail_of s
-  stands-tail next r =
-      let f = read_fits img s w.is in
-      (span-reads tail w.tail (f.next, (f.bytes, (f.operations, f.request))) next r).0
+  tail-fits : tail.Fits (tail_of s)
+  tail-fits = let f = read_fits img s w.is in (f.next, (f.bytes, (f.operations, f.request)))
+
+  module _ (o : Result (Tail × ℕ) Fault) (k : Reads img tail.read p.tail (meant tail_meant o)) where
+    pub tail-ok : IsOk o
+    tail-ok = span-ok tail tail_meant o w.tail tail-fits k
+
+    pub stands-tail : {x : Tail × ℕ} → o ≡ Ok x → tail_meant x.0 ≡ tail_of s
+    stands-tail y = span-value tail tail_meant o w.tail tail-fits k y
 
   -- ---- "request sets the reason"
 
-  pub request-refused : {r : ℕ} {old : List ℕ} → 5 < r → Changes (request_freeze usual img r (length old)) old (A.Refused 4) old
+  pub request-refused : {r : ℕ} {old : List ℕ} → 5 < r → Changes (request_freeze usual img r (length old)) old (Err D.BadArgument) old
   request-refused {r} h = changes-refused (Call.request r) w (rw (lt-ltb 5 r h))
 
-  pub request-made : {r : ℕ} {old new : List ℕ} {a : ChangeAnswer} {t : Tail} (next : Cursor) → r ≤ 5 → Reads img tail.read (At p.tail) (tail_meant t) next
-      → Changes (if_fits (restaged img p (record { next_id = t.next_id; bytes = t.bytes; operations = t.operations; request = r })) (length old)) old a new
-      → Changes (request_freeze usual img r (length old)) old a new
-  unfolding result
-  request-made {r} next h k =
-      changes-made (Call.request r) w (rw (le-ltb 5 r h))
-      (restaged-bytes _ ∙ ap (λ (x : TailParts). write_image (retailed (x.0, (x.1.0, (x.1.1.0, r))) s)) (stands-tail next k))
+  module _ {o : Result (Tail × ℕ) Fault} (k : Reads img tail.read p.tail (meant tail_meant o)) {x : Tail × ℕ} (y : o ≡ Ok x) where
+    pub request-made : {r : ℕ} {old new : List ℕ} {a : Result ℕ Refusal} → r ≤ 5
+        → Changes (if_fits (restaged img p (record { next_id = x.0.next_id; bytes = x.0.bytes; operations = x.0.operations; request = r })) (length old)) old a new
+        → Changes (request_freeze usual img r (length old)) old a new
+    unfolding result
+    request-made {r} h =
+        changes-made (Call.request r) w (rw (le-ltb 5 r h))
+        (restaged-bytes _ ∙ ap (λ (t : TailParts). write_image (retailed (t.0, (t.1.0, (t.1.1.0, r))) s)) (stands-tail _ k y))
 
-  -- ---- "Note adds one operation and given bytes to the staged counts"
+    -- ---- "Note adds one operation and given bytes to the staged counts"
 
-  pub note-refused : (n : ℕ) {old : List ℕ} {t : Tail} (next : Cursor) → Reads img tail.read (At p.tail) (tail_meant t) next
-      → (past_count (t.bytes + n) || past_count (t.operations + 1)) ≡ true → Changes (record_mutation usual img n (length old)) old (A.Refused 10) old
-  note-refused n next k h =
-      let e = stands-tail next k in
-      changes-refused (Call.note n) w (rw (← (ap (λ (x : TailParts). x.1.0) e), ← (ap (λ (x : TailParts). x.1.1.0) e), h))
+    pub note-refused : (n : ℕ) {old : List ℕ} → (past_count (x.0.bytes + n) || past_count (x.0.operations + 1)) ≡ true
+        → Changes (record_mutation usual img n (length old)) old (Err D.CountFull) old
+    note-refused n h =
+        let e = stands-tail _ k y in
+        changes-refused (Call.note n) w (rw (← (ap (λ (t : TailParts). t.1.0) e), ← (ap (λ (t : TailParts). t.1.1.0) e), h))
 
-  pub note-made : (n : ℕ) {old new : List ℕ} {a : ChangeAnswer} {t : Tail} (next : Cursor) → Reads img tail.read (At p.tail) (tail_meant t) next
-      → (past_count (t.bytes + n) || past_count (t.operations + 1)) ≡ false
-      → Changes (if_fits (restaged img p (record { next_id = t.next_id; bytes = t.bytes + n; operations = t.operations + 1; request = t.request })) (length old)) old a new
-      → Changes (record_mutation usual img n (length old)) old a new
-  unfolding result
-  note-made n next k h =
-      let e = stands-tail next k in
-      changes-made (Call.note n) w (rw (← (ap (λ (x : TailParts). x.1.0) e), ← (ap (λ (x : TailParts). x.1.1.0) e), h))
-      (restaged-bytes _ ∙ ap (λ (x : TailParts). write_image (retailed (x.0, (x.1.0 + n, (x.1.1.0 + 1, x.1.1.1))) s)) e)
+    pub note-made : (n : ℕ) {old new : List ℕ} {a : Result ℕ Refusal} → (past_count (x.0.bytes + n) || past_count (x.0.operations + 1)) ≡ false
+        → Changes (if_fits (restaged img p (record { next_id = x.0.next_id; bytes = x.0.bytes + n; operations = x.0.operations + 1; request = x.0.request })) (length old)) old a new
+        → Changes (record_mutation usual img n (length old)) old a new
+    unfolding result
+    note-made n h =
+        let e = stands-tail _ k y in
+        changes-made (Call.note n) w (rw (← (ap (λ (t : TailParts). t.1.0) e), ← (ap (λ (t : TailParts). t.1.1.0) e), h))
+        (restaged-bytes _ ∙ ap (λ (t : TailParts). write_image (retailed (t.0, (t.1.0 + n, (t.1.1.0 + 1, t.1.1.1))) s)) e)

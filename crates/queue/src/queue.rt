@@ -10,31 +10,26 @@ ghost use Rattle.rules.specs.Refusals.{past_count};
 ghost use Rattle.rules.specs.ChangeCalls.{request_freeze, record_mutation, freeze_live, pop_flushed_batch};
 ghost use Rattle.change.specs.Changed.{Changes};
 
-use change::answer::ChangeAnswer;
 use change::batch::pass_batch;
 use change::section::open_sections;
+use image::field::LAST_WORD;
+use survey::refusal::Refusal;
 use waiting::batch::{Queue, read_queue};
 use waiting::write::{Frozen, NewQueue, Popped, write_queue};
-use wire::cursor::{Cursor, place_at};
 use wire::number::read_number;
 use wire::time::Time;
 use writers::batch::BatchHead;
 use writers::tail::{Tail, read_tail};
 
 // Requests a freeze, for a reason from 1 to 5; 0 takes a request back.
-pub fn request(img: &[u8], reason: u64, target: &mut [u8]) -> ChangeAnswer
+pub fn request(img: &[u8], reason: u64, target: &mut [u8]) -> Result<usize, Refusal>
     ensures { Changes (request_freeze usual img.now reason (length target.old)) target.old result target.new }
 {
-    let opened = open_sections(img);
-    if opened.refusal != 0 {
-        return ChangeAnswer::Refused(opened.refusal);
-    }
+    let sections = open_sections(img)?;
     if 5 < reason {
-        return ChangeAnswer::Refused(4);
+        return Err(Refusal::BadArgument);
     }
-    let sections = opened.sections;
-    let read = read_tail(img, Cursor::At(sections.tail));
-    let staged = read.tail;
+    let (staged, _) = read_tail(img, sections.tail).unwrap();
     let tail = Tail {
         next_id: staged.next_id,
         bytes: staged.bytes,
@@ -45,18 +40,17 @@ pub fn request(img: &[u8], reason: u64, target: &mut [u8]) -> ChangeAnswer
 }
 
 // Stages one operation more, and so many bytes.
-pub fn record_mutation(img: &[u8], additional_bytes: u64, target: &mut [u8]) -> ChangeAnswer
+pub fn record_mutation(
+    img: &[u8],
+    additional_bytes: u64,
+    target: &mut [u8],
+) -> Result<usize, Refusal>
     ensures { Changes (record_mutation usual img.now additional_bytes (length target.old)) target.old result target.new }
 {
-    let opened = open_sections(img);
-    if opened.refusal != 0 {
-        return ChangeAnswer::Refused(opened.refusal);
-    }
-    let sections = opened.sections;
-    let read = read_tail(img, Cursor::At(sections.tail));
-    let staged = read.tail;
+    let sections = open_sections(img)?;
+    let (staged, _) = read_tail(img, sections.tail).unwrap();
     if passes_count(staged.bytes, staged.operations, additional_bytes) {
-        return ChangeAnswer::Refused(10);
+        return Err(Refusal::CountFull);
     }
     let tail = Tail {
         next_id: staged.next_id,
@@ -75,29 +69,24 @@ pub fn freeze_live(
     operations: u64,
     wall_now: Time,
     target: &mut [u8],
-) -> ChangeAnswer
+) -> Result<usize, Refusal>
     ensures { Changes (freeze_live usual img.now depth bytes operations wall_now (length target.old)) target.old result target.new }
 {
-    let opened = open_sections(img);
-    if opened.refusal != 0 {
-        return ChangeAnswer::Refused(opened.refusal);
-    }
+    let sections = open_sections(img)?;
     if 1_000_000_000 <= wall_now.nanos {
-        return ChangeAnswer::Refused(4);
+        return Err(Refusal::BadArgument);
     }
-    let sections = opened.sections;
     let queue = read_queue(img, sections.batches);
     if flushing_at_capacity(queue, depth, bytes, operations) {
-        return ChangeAnswer::Refused(6);
+        return Err(Refusal::AtCapacity);
     }
-    let live = read_number(img, Cursor::At(sections.live), 0xFFFF_FFFF);
-    if live.value == 0 {
-        return ChangeAnswer::Refused(7);
+    let (live, _) = read_number(img, sections.live, LAST_WORD).unwrap();
+    if live == 0 {
+        return Err(Refusal::LiveEmpty);
     }
-    let read = read_tail(img, Cursor::At(sections.tail));
-    let staged = read.tail;
-    if staged.next_id == 0xFFFF_FFFF_FFFF_FFFF {
-        return ChangeAnswer::Refused(10);
+    let (staged, _) = read_tail(img, sections.tail).unwrap();
+    if staged.next_id == u64::MAX {
+        return Err(Refusal::CountFull);
     }
     let frozen = Frozen {
         first: queue.first,
@@ -109,28 +98,21 @@ pub fn freeze_live(
 }
 
 // Drops the front batch, whose id it must be.
-pub fn pop_flushed_batch(img: &[u8], batch_id: u64, target: &mut [u8]) -> ChangeAnswer
+pub fn pop_flushed_batch(img: &[u8], batch_id: u64, target: &mut [u8]) -> Result<usize, Refusal>
     ensures { Changes (pop_flushed_batch usual img.now batch_id (length target.old)) target.old result target.new }
 {
-    let opened = open_sections(img);
-    if opened.refusal != 0 {
-        return ChangeAnswer::Refused(opened.refusal);
+    let sections = open_sections(img)?;
+    let (count, first) = read_number(img, sections.batches, 16).unwrap();
+    if count == 0 {
+        return Err(Refusal::NoBatch);
     }
-    let sections = opened.sections;
-    let count = read_number(img, Cursor::At(sections.batches), 16);
-    if count.value == 0 {
-        return ChangeAnswer::Refused(8);
-    }
-    let first = count.next;
-    let front = pass_batch(img, first);
-    let head = front.head;
+    let (head, rest) = pass_batch(img, first).unwrap();
     if head.id != batch_id {
-        return ChangeAnswer::Refused(9);
+        return Err(Refusal::WrongBatch);
     }
-    let rest = front.next;
     let popped = Popped {
-        count: count.value - 1,
-        rest: place_at(rest),
+        count: count - 1,
+        rest,
     };
     write_queue(img, sections, NewQueue::Popped(popped), target)
 }

@@ -1,24 +1,30 @@
 -- What a listing answers, by the attributes and the rows that a stack shows.
 -- Assumes nothing.
-use Rattle.std.specs.Prelude.{None, Option, Some}
-use mathlib.Core.Path.{◌≡◌, refl, ◌∙◌}
+use Rattle.std.specs.Prelude.{Result, Ok, Err, None, Option, Some}
+use mathlib.Core.Path.{◌≡◌, refl, sym, ◌∙◌}
 use mathlib.Core.Bool.{Bool, true, false, cond}
 use mathlib.Core.List.{List, [], ◌∷◌}
-use Prim.Native.Nat.{ℕ}
+use Prim.Native.Nat.{ℕ, ◌≤◌}
 use lib.Dec.{ltb}
-use lib.ListN.{length}
+use lib.ListN.{length, drop, length-map}
+use lib.Seq.{take-append_seam}
 use denote.Enum.Declared.{tag_of}
 use types.Run.{OneOf, miss}
 use Rattle.deltas.proofs.Others.{not_directory}
+use Rattle.wire.specs.Parse.{got}
 use Rattle.wire.specs.Orders.{by_number}
 use Rattle.wire.specs.Maps.{get}
-use Rattle.image.specs.Meaning.{Kind, Entries, Attributes, directory, file, symlink, special}
+use Rattle.image.specs.Meaning.{Kind, Entries, Attributes, Store, directory, file, symlink, special}
 use Rattle.attrs.specs.Meant.{kind_meant}
 use Rattle.attrs.specs.declared.node.FileType.{FileType}
 use Rattle.attrs.specs.declared.node.FileType.TheVariants as K
 use Rattle.attrs.specs.contracts.node.FileType as type
 use Rattle.rules.specs.Initial.{usual}
-use Rattle.rules.specs.Answers.{refused, answer, first_of, unless}
+use Rattle.image.specs.RoundTrip.{read_image}
+use Rattle.survey.specs.Verdict.{number_of}
+use Rattle.survey.specs.declared.batch.InodeLayerStack.{InodeLayerStack}
+use Rattle.survey.specs.declared.refusal.Refusal.{Refusal}
+use Rattle.rules.specs.Answers.{Answer, refused, answer, first_of, unless}
 use Rattle.rules.specs.Changes.{map_if}
 use Rattle.rules.specs.FileAttrs.{FileAttr, attributes}
 use Rattle.rules.specs.Asks.{rows_of, name_rows, names_of, few_rows, reply}
@@ -28,16 +34,15 @@ use Rattle.rules.specs.Views.{if_directory, listed, valued, view_at}
 use Rattle.rules.specs.ReadCalls.{Row, map_answer, entry_rows, attribute_rows}
 use Rattle.rules.proofs.PlacedStack.{placed-stack, placed-node}
 use Rattle.rules.proofs.Asked.{over-fine, entry-count, attribute-count}
-use Rattle.stack.specs.Stacks.{Opens, shown, records_in, node_in}
+use Rattle.stack.specs.Stacks.{StackOf, Opens, shown, records_in, node_in}
+use Rattle.merge.specs.Merges.{merge_rows}
 use Rattle.rows.specs.Listings.{rows_listed}
-use Rattle.rows.specs.Plans.{is_directory, is_listed, list_call, room_for, NoRows, Plans}
-use Rattle.layers.specs.declared.answer.RowsAnswer.TheVariants as A
+use Rattle.rows.specs.Plans.{entry_of, is_directory, is_listed, list_call, room_for, plan_entries, PlansRows, Plans, Fills, Filled}
+use Rattle.rows.specs.declared.listing.Entry.{Entry}
 use Rattle.rows.specs.declared.listing.Plan.{Plan}
 use Rattle.rows.specs.declared.listing.Listing.{Listing}
 use Rattle.rows.specs.declared.listing.Listing.TheVariants as L
-use Rattle.stack.specs.declared.stack.Opened.{Opened}
 use Rattle.stack.proofs.Opening.{opened-refused, opened-store}
-use Rattle.rows.proofs.Planning.{plan-none}
 
 -- all but a directory
 pub other-type : (k : FileType) → OneOf not_directory (tag_of type.the_type k) → is_directory (kind_meant k) ≡ false
@@ -77,32 +82,51 @@ module _ (lent : ℕ) (rows : List Row) where
 
 -- ---- the calls
 
-module _ {img : List ℕ} {i : ℕ} {r : Opened} (o : Opens img i r) (room : ℕ) where
-  refused-listing : (l : Listing) → (r.refusal ≡ 0 → ⊥) → list_call l img i room ≡ refused r.refusal
-  refused-listing L.Entries z = opened-refused o _ z
-  refused-listing L.Attributes z = opened-refused o _ z
+fine-listing : {img : List ℕ} {i : ℕ} {s : InodeLayerStack} (room : ℕ) → StackOf img i s → {st : Store} → length img ≤ 65536 → read_image img ≡ got st [] → (l : Listing)
+    → list_call l img i room ≡ cond (is_listed l (shown (attributes usual i) img s)) (room_for room (rows_listed l (records_in img s) (node_in img s))) (answer None)
+unfolding reply entry_rows attribute_rows
+fine-listing {img} {i} room k {st} few g L.Entries =
+    rw (k.records_are, k.node_is, placed-stack img i g, placed-node img i g) (over-fine _ img few g ∙ entries-given room (entry_rows img i) (view_at usual st i).attributes (look entries (stack i (layers st)) (get by_number i st.base)) (entry-count img i g))
+fine-listing {img} {i} room k {st} few g L.Attributes =
+    rw (k.records_are, k.node_is, placed-stack img i g, placed-node img i g) (over-fine _ img few g ∙ names-given room (attribute_rows img i) (view_at usual st i).attributes (look values (stack i (layers st)) (get by_number i st.base)) (attribute-count img i g))
+
+module _ {img : List ℕ} {i : ℕ} {o : Result InodeLayerStack Refusal} (h : Opens img i o) (room : ℕ) where
+  refused-listing : (l : Listing) {f : Refusal} → o ≡ Err f → list_call l img i room ≡ refused (number_of f)
+  refused-listing L.Entries d = opened-refused h _ d
+  refused-listing L.Attributes d = opened-refused h _ d
 
   -- "1, 2"
-  pub listing-refused : (l : Listing) {p : Plan} → (r.refusal ≡ 0 → ⊥) → NoRows (A.Refused r.refusal) p → Plans img (list_call l img i room) room p
-  listing-refused l z n = rw (refused-listing l z) (plan-none n refl)
+  pub listing-refused : (l : Listing) {f : Refusal} {r : Result (Option Plan) Refusal} → o ≡ Err f → r ≡ Err f → Plans img (list_call l img i room) room r
+  listing-refused l d e = rw e (record { answers = sym (refused-listing l d); fits = tt })
 
-  module _ (z : r.refusal ≡ 0) where
-    fine-listing : (l : Listing) → list_call l img i room ≡ cond (is_listed l (shown (attributes usual i) img r.stack)) (room_for room (rows_listed l (records_in img r.stack) (node_in img r.stack))) (answer None)
-    unfolding reply entry_rows attribute_rows
-    fine-listing L.Entries =
-        let v = opened-store o z in
-        let s = o.stack z in
-        rw (s.records_are, s.node_is, placed-stack img i v.1, placed-node img i v.1) (over-fine _ img v.2 v.1 ∙ entries-given room (entry_rows img i) (view_at usual v.0 i).attributes (look entries (stack i (layers v.0)) (get by_number i v.0.base)) (entry-count img i v.1))
-    fine-listing L.Attributes =
-        let v = opened-store o z in
-        let s = o.stack z in
-        rw (s.records_are, s.node_is, placed-stack img i v.1, placed-node img i v.1) (over-fine _ img v.2 v.1 ∙ names-given room (attribute_rows img i) (view_at usual v.0 i).attributes (look values (stack i (layers v.0)) (get by_number i v.0.base)) (attribute-count img i v.1))
+  module _ {s : InodeLayerStack} (d : o ≡ Ok s) (l : Listing) {a : Option FileAttr} (e : a ≡ shown (attributes usual i) img s) where
+    call-is : list_call l img i room ≡ cond (is_listed l a) (room_for room (rows_listed l (records_in img s) (node_in img s))) (answer None)
+    call-is = let v = opened-store h d in let g = rw d at h in rw e (fine-listing room g.stack v.2 v.1 l)
 
-    module _ (l : Listing) {a : Option FileAttr} (e : a ≡ shown (attributes usual i) img r.stack) {p : Plan} where
-      -- then none
-      pub listing_none : is_listed l a ≡ false → NoRows A.None p → Plans img (list_call l img i room) room p
-      listing_none f n = rw (fine-listing l, ← e, f) (plan-none n refl)
+    -- then none
+    pub listing_none : is_listed l a ≡ false → Plans img (list_call l img i room) room (Ok None)
+    listing_none f = record { answers = rw (call-is, f); fits = tt }
 
-      -- last the rows, or 5
-      pub listing-rows : is_listed l a ≡ true → Plans img (room_for room (rows_listed l (records_in img r.stack) (node_in img r.stack))) room p → Plans img (list_call l img i room) room p
-      listing-rows t h = rw (fine-listing l, ← e, t) h
+    -- last 5, or the rows
+    module _ (t : is_listed l a ≡ true) {w : Result Plan Refusal} (p : PlansRows img (rows_listed l (records_in img s) (node_in img s)) room w) where
+      pub listing-few : {f : Refusal} {r : Result (Option Plan) Refusal} → w ≡ Err f → r ≡ Err f → Plans img (list_call l img i room) room r
+      listing-few x y = let g = rw x at p in rw y (record { answers = rw (call-is, t) g.answers; fits = tt })
+
+      pub listing-rows : {q : Plan} → w ≡ Ok q → Plans img (list_call l img i room) room (Ok (Some q))
+      listing-rows x = let g = rw x at p in record { answers = rw (call-is, t) g.answers; fits = g.fits }
+
+-- ---- the rows lent
+
+module _ {img : List ℕ} {a : Answer (Option (List Row))} {room : ℕ} {o : Result (Option Plan) Refusal} (h : Plans img a room o) {old : List Entry} where
+  pub filled-refused : {f : Refusal} {r : Result (Option ℕ) Refusal} → o ≡ Err f → r ≡ Err f → Filled a old old r
+  filled-refused d e = let g = rw d at h in rw (e, ← g.answers) (record { answers = refl; count = refl; rows = refl })
+
+  pub filled_none : o ≡ Ok None → Filled a old old (Ok None)
+  filled_none d = let g = rw d at h in rw (← g.answers) (record { answers = refl; count = refl; rows = refl })
+
+  pub filled-all : {p : Plan} {n : ℕ} {new : List Entry} → o ≡ Ok (Some p) → Fills (plan_entries img p) old n new → Filled a old new (Ok (Some n))
+  filled-all {p} {n} {new} d f =
+      let g = rw d at h in
+      let es = plan_entries img p in
+      rw (← g.answers)
+      (record { answers = rw (f.many, f.rows, take-append_seam es (drop (length es) old)); count = f.many ∙ length-map (merge_rows img p.merge) entry_of; rows = f.rows })

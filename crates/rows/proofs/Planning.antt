@@ -1,5 +1,6 @@
 -- What a listing answers, and that its rows are filled one after the other.
 -- Assumes nothing.
+use Rattle.std.specs.Prelude.{Ok, Err, None, Option, Some}
 use mathlib.Core.Path.{◌≡◌, refl, sym, ap, ◌∙◌}
 use mathlib.Core.Bool.{Bool, true, false, cond}
 use mathlib.Core.List.{List, [], ◌∷◌, ◌++◌, map, append_assoc, append-nil}
@@ -8,74 +9,65 @@ use native.Mathlib.Omega.{arith}
 use native.Mathlib.Numerals.{add-one}
 use lib.Dec.{ltb}
 use lib.ListN.{length, take, drop, get_or, set, length-append, length-drop, length-map, drop_of_length-le}
-use lib.Seq.{drop-cons, take-suc, take-length, take-append_seam, set_at, length-take-le}
+use lib.Seq.{drop-cons, take-suc, take-length, set_at, length-take-le}
 use borrow.Author.Tests.{ltb-false}
 use Rattle.survey.specs.declared.batch.InodeLayerStack.{InodeLayerStack}
-use Rattle.rules.specs.ReadCalls.{Row}
 use Rattle.stack.specs.Stacks.{records_in, node_in}
 use Rattle.merge.specs.Sources.{rows_if_more}
 use Rattle.merge.specs.Merges.{NoSources, Ready, decided_rows, row_of_merge, merge_rows, Settles, count_of}
 use Rattle.gather.specs.Gathers.{Gathers}
 use Rattle.rows.specs.Listings.{lists_of, rows_listed}
 use Rattle.rows.proofs.Decide.{gathered-rows}
-use Rattle.rows.specs.Plans.{entry_of, room_for, answer_of, NoRows, Fits, Plans, count_in, plan_count, plan_row, plan_answer, Advances, Filled}
+use Rattle.rows.specs.Plans.{entry_of, NoRows, Fits, PlansRows, plan_row, plan_entries, Advances, Fills}
 use Rattle.rows.specs.declared.listing.Listing.{Listing}
 use Rattle.wire.specs.declared.text.Part.{Part}
 use Rattle.merge.specs.declared.merge.Sources.{Sources}
 use Rattle.merge.specs.declared.merge.Merge.{Merge}
-use Rattle.merge.specs.declared.merge.Counted.{Counted}
-use Rattle.merge.specs.declared.merge.Counted.TheVariants as C
-use Rattle.layers.specs.declared.answer.RowsAnswer.{RowsAnswer}
-use Rattle.layers.specs.declared.answer.RowsAnswer.TheVariants as A
+use Rattle.survey.specs.declared.refusal.Refusal.TheVariants.{NoRoom}
 use Rattle.rows.specs.declared.listing.Entry.{Entry}
 use Rattle.rows.specs.declared.listing.Plan.{Plan}
 
-pub no_rows : {all : Sources} {v : Part} {a : RowsAnswer} → NoSources all
-    → NoRows a (record { merge = record { all = all; more = false; start = 0; «length» = 0; inode = 0; value = v }; answer = a })
-no_rows n = record { answers = refl; none_left = λ img. refl; ready = λ img. record { whole = n.whole; ascend = rw n.none_yet tt } }
+pub no_rows : {all : Sources} {v : Part} → NoSources all → NoRows (record { merge = record { all = all; more = false; start = 0; «length» = 0; inode = 0; value = v }; count = 0 })
+no_rows n = record { none_counted = refl; none_left = λ img. refl; ready = λ img. record { whole = n.whole; ascend = rw n.none_yet tt } }
 
-pub advanced : {img : List ℕ} {p : Plan} {m : Merge} → Settles img p.merge.all m → Advances img p (record { merge = m; answer = p.answer })
+pub advanced : {img : List ℕ} {p : Plan} {m : Merge} → Settles img p.merge.all m → Advances img p (record { merge = m; count = p.count })
 advanced t = record { rows = sym t.rows; ready = t.ready }
-
--- a plan that fills nothing
-pub plan-none : {img : List ℕ} {room : ℕ} {a : RowsAnswer} {p : Plan} → NoRows a p → count_in a ≡ 0 → Plans img (answer_of a []) room p
-plan-none {img} n z = record { answers = rw (n.answers, n.none_left img); fits = record { ready = n.ready img; count = rw (n.answers, n.none_left img, z); small = rw (n.answers, z) (omega arith) } }
 
 -- ---- room for the rows
 
-counted-rows : (room count n : ℕ) → count_of count room ≡ C.Rows n → (ltb room count ≡ false) × (count ≡ n)
+counted-rows : (room count n : ℕ) → count_of count room ≡ Some n → (ltb room count ≡ false) × (count ≡ n)
 counted-rows room count n = go (ltb room count) refl
   where
-    go : (b : Bool) → ltb room count ≡ b → cond b C.TooMany (C.Rows count) ≡ C.Rows n → (ltb room count ≡ false) × (count ≡ n)
+    go : (b : Bool) → ltb room count ≡ b → cond b None (Some count) ≡ Some n → (ltb room count ≡ false) × (count ≡ n)
     go true h e = absurd (let z : ◌≡◌ {A = ℕ} 0 1 = cc in omega arith)
     go false h e = (h, cc)
 
-counted-many : (room count : ℕ) → count_of count room ≡ C.TooMany → ltb room count ≡ true
+counted-many : (room count : ℕ) → count_of count room ≡ None → ltb room count ≡ true
 counted-many room count = go (ltb room count) refl
   where
-    go : (b : Bool) → ltb room count ≡ b → cond b C.TooMany (C.Rows count) ≡ C.TooMany → ltb room count ≡ true
+    go : (b : Bool) → ltb room count ≡ b → cond b None (Some count) ≡ None → ltb room count ≡ true
     go true h e = h
     go false h e = absurd (let z : ◌≡◌ {A = ℕ} 0 1 = cc in omega arith)
 
-module _ {img : List ℕ} {s : InodeLayerStack} (l : Listing) {all : Sources} (g : Gathers img s (lists_of l) all) where
-  pub planned : {room : ℕ} {c : Counted} → c ≡ count_of (length (decided_rows img all)) room → {n : ℕ} → c ≡ C.Rows n → {m : Merge} → Settles img all m
-      → Plans img (room_for room (rows_listed l (records_in img s) (node_in img s))) room (record { merge = m; answer = A.Rows n })
-  planned {room} k {n} e t =
+module _ {img : List ℕ} {s : InodeLayerStack} (l : Listing) {all : Sources} (g : Gathers img s (lists_of l) all) {room : ℕ} {c : Option ℕ} (k : c ≡ count_of (length (decided_rows img all)) room) where
+  pub planned : {n : ℕ} → c ≡ Some n → {m : Merge} → Settles img all m → PlansRows img (rows_listed l (records_in img s) (node_in img s)) room (Ok (record { merge = m; count = n }))
+  planned {n} e t =
       let z = counted-rows room (length (decided_rows img all)) n (sym k ∙ e) in
       let low = ltb-false room (length (decided_rows img all)) z.0 in
       let same = ap length t.rows in
-      rw (← gathered-rows l g, z.0, t.rows) (record { answers = refl; fits = record { ready = t.ready; count = sym same ∙ z.1; small = omega (arith, low, z.1) } })
+      rw (← gathered-rows l g) (record { answers = rw (z.0, t.rows); fits = record { ready = t.ready; count = sym same ∙ z.1; small = omega (arith, low, z.1) } })
 
-  pub planned-none : {room : ℕ} {c : Counted} → c ≡ count_of (length (decided_rows img all)) room → {n : ℕ} → c ≡ C.Rows n → n ≡ 0 → {p : Plan} → NoRows (A.Rows 0) p
-      → Plans img (room_for room (rows_listed l (records_in img s) (node_in img s))) room p
-  planned-none {room} k {n} e o w =
+  pub planned-none : {n : ℕ} → c ≡ Some n → n ≡ 0 → {p : Plan} → NoRows p → PlansRows img (rows_listed l (records_in img s) (node_in img s)) room (Ok p)
+  planned-none {n} e o w =
       let z = counted-rows room (length (decided_rows img all)) n (sym k ∙ e) in
-      let none-listed : rows_listed l (records_in img s) (node_in img s) ≡ [] = drop_of_length-le (rows_listed l (records_in img s) (node_in img s)) {i = 0} (omega (arith, rw (gathered-rows l g) at (z.1 ∙ o))) in
-      rw (← gathered-rows l g, z.0, gathered-rows l g, none-listed) (plan-none w refl)
+      let none-listed : decided_rows img all ≡ [] = drop_of_length-le (decided_rows img all) {i = 0} (omega (arith, z.1, o)) in
+      rw (← gathered-rows l g) (record {
+        answers = rw (z.0, none-listed, w.none_left img);
+        fits = record { ready = w.ready img; count = rw (w.none_left img, w.none_counted); small = rw w.none_counted (omega arith) };
+      })
 
-  pub planned-few : {room : ℕ} {c : Counted} → c ≡ count_of (length (decided_rows img all)) room → {p : Plan} → c ≡ C.TooMany → NoRows (A.Refused 5) p
-      → Plans img (room_for room (rows_listed l (records_in img s) (node_in img s))) room p
-  planned-few {room} k e n = rw (← gathered-rows l g, counted-many room (length (decided_rows img all)) (sym k ∙ e)) (plan-none n refl)
+  pub planned-few : c ≡ None → PlansRows img (rows_listed l (records_in img s) (node_in img s)) room (Err NoRoom)
+  planned-few e = rw (← gathered-rows l g) (record { answers = rw (counted-many room (length (decided_rows img all)) (sym k ∙ e)); fits = tt })
 
 -- ---- rows filled from the front: so far i of them
 
@@ -127,25 +119,11 @@ module _ {img : List ℕ} {es : List Entry} {i : ℕ} {p : Plan} (g : Going img 
 -- ---- all rows
 
 module _ {img : List ℕ} {room : ℕ} {p : Plan} (h : Fits img room p) where
-  abbrev pub target : List Entry
-  target = map entry_of (merge_rows img p.merge)
-
-  pub target-length : length target ≡ plan_count p
+  pub target-length : length (plan_entries img p) ≡ p.count
   target-length = length-map (merge_rows img p.merge) entry_of ∙ h.count
 
-  pub going_start : Going img target 0 p
+  pub going_start : Going img (plan_entries img p) 0 p
   going_start = record { left = refl; ready = h.ready }
 
-  pub going_end : (old : List Entry) → Filled (plan_answer img p) old (filled_to target old (plan_count p)) p.answer
-  going_end old = go p.answer target-length
-    where
-      l : List Row
-      l = merge_rows img p.merge
-
-      go : (a : RowsAnswer) → length (map entry_of l) ≡ count_in a → Filled (answer_of a l) old (filled_to (map entry_of l) old (count_in a)) a
-      go (A.Refused n) e = record { answers = refl; count = refl; rows = refl }
-      go A.None e = record { answers = refl; count = refl; rows = refl }
-      go (A.Rows n) e =
-          let es = map entry_of l in
-          let w : take n es ≡ es = rw (sym e) (take-length es) in
-          record { answers = rw (w, sym e, take-append_seam es (drop (length es) old)); count = sym e ∙ length-map l entry_of; rows = rw (w, sym e) }
+  pub going_end : (old : List Entry) → Fills (plan_entries img p) old p.count (filled_to (plan_entries img p) old p.count)
+  going_end old = let es = plan_entries img p in rw (← target-length) (record { many = refl; rows = rw (take-length es) })

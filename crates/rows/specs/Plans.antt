@@ -1,16 +1,15 @@
 -- What a listing answers and fills. Document 01: "A listing fills a lent row of entries: start of the name in the image, length, inode."
 -- "Listings: as reads, last 5 if there are fewer rows than entries." "Rows past the last stay."
-use Rattle.std.specs.Prelude.{◌≡◌, Bool, true, false, cond, List, [], map, ℕ, ◌≤◌, ltb, length, None, Option, Some}
+use Rattle.std.specs.Prelude.{◌≡◌, Bool, true, false, cond, List, [], ◌++◌, map, ℕ, ◌≤◌, ltb, length, drop, Result, Ok, Err, IfOk, IfSome, None, Option, Some}
 use Rattle.rules.specs.Answers.{Answer, refused, answer}
 use Rattle.rules.specs.Changes.{map_if}
 use Rattle.rules.specs.ReadCalls.{Row, map_answer, filled, list_directory, list_xattrs}
 use Rattle.rules.specs.Initial.{usual}
 use Rattle.rules.specs.FileAttrs.{FileAttr}
 use Rattle.image.specs.Meaning.{Kind, directory, file, symlink, special}
-use Rattle.layers.specs.Answered.{rows_answered}
+use Rattle.survey.specs.declared.refusal.Refusal.{Refusal}
+use Rattle.layers.specs.Answered.{answered, filled_rows}
 use Rattle.merge.specs.Merges.{Ready, row_of_merge, decided_rows, merge_rows}
-use Rattle.layers.specs.declared.answer.RowsAnswer.{RowsAnswer}
-use Rattle.layers.specs.declared.answer.RowsAnswer.TheVariants as A
 use Rattle.rows.specs.declared.listing.Listing.{Listing}
 use Rattle.rows.specs.declared.listing.Listing.TheVariants as L
 use Rattle.rows.specs.declared.listing.Entry.{Entry}
@@ -44,41 +43,33 @@ list_call L.Attributes img i lent = list_xattrs usual img i lent
 abbrev pub room_for : ℕ → List Row → Answer (Option (List Row))
 room_for room l = cond (ltb room (length l)) (refused 5) (answer (Some l))
 
--- ---- a plan: what a listing answers, and the rows that it has left to fill
-
-abbrev pub count_in : RowsAnswer → ℕ
-count_in (A.Refused n) = 0
-count_in A.None = 0
-count_in (A.Rows n) = n
-
-abbrev pub plan_count : Plan → ℕ
-plan_count p = count_in p.answer
+-- ---- a plan: the rows that a listing has left to fill, and how many they are
 
 abbrev pub plan_row : Plan → Entry
 plan_row p = entry_of (row_of_merge p.merge)
 
-abbrev pub answer_of : RowsAnswer → List Row → Answer (Option (List Row))
-answer_of (A.Refused n) l = refused n
-answer_of A.None l = answer None
-answer_of (A.Rows n) l = answer (Some l)
-
-abbrev pub plan_answer : List ℕ → Plan → Answer (Option (List Row))
-plan_answer img p = answer_of p.answer (merge_rows img p.merge)
+abbrev pub plan_entries : List ℕ → Plan → List Entry
+plan_entries img p = map entry_of (merge_rows img p.merge)
 
 -- it has as many rows as it says, and there is room for them
 pub record Fits (img : List ℕ) (room : ℕ) (p : Plan) : Type 0 where
   pub ready : Ready img p.merge.all
-  pub count : length (merge_rows img p.merge) ≡ plan_count p
-  pub small : plan_count p ≤ room
+  pub count : length (merge_rows img p.merge) ≡ p.count
+  pub small : p.count ≤ room
+
+-- these are its rows, if there is room for them
+pub record PlansRows (img : List ℕ) (l : List Row) (room : ℕ) (r : Result Plan Refusal) : Type 0 where
+  pub answers : answered (λ p. Some (merge_rows img p.merge)) r ≡ room_for room l
+  pub fits : IfOk r (Fits img room)
 
 -- it answers this, within the room
-pub record Plans (img : List ℕ) (a : Answer (Option (List Row))) (room : ℕ) (p : Plan) : Type 0 where
-  pub answers : plan_answer img p ≡ a
-  pub fits : Fits img room p
+pub record Plans (img : List ℕ) (a : Answer (Option (List Row))) (room : ℕ) (r : Result (Option Plan) Refusal) : Type 0 where
+  pub answers : answered (map_if (λ p. merge_rows img p.merge)) r ≡ a
+  pub fits : IfOk r (λ o. IfSome o (Fits img room))
 
--- no row, and this answer
-pub record NoRows (a : RowsAnswer) (p : Plan) : Type 0 where
-  pub answers : p.answer ≡ a
+-- no row
+pub record NoRows (p : Plan) : Type 0 where
+  pub none_counted : p.count ≡ 0
   pub none_left : (img : List ℕ) → merge_rows img p.merge ≡ []
   pub ready : (img : List ℕ) → Ready img p.merge.all
 
@@ -87,13 +78,23 @@ pub record Advances (img : List ℕ) (p r : Plan) : Type 0 where
   pub rows : merge_rows img r.merge ≡ decided_rows img p.merge.all
   pub ready : Ready img r.merge.all
 
+-- the first are these, and the others stay
+pub record Fills (es old : List Entry) (n : ℕ) (new : List Entry) : Type 0 where
+  pub many : n ≡ length es
+  pub rows : new ≡ es ++ drop (length es) old
+
+abbrev pub count_in : Result (Option ℕ) Refusal → ℕ
+count_in (Err r) = 0
+count_in (Ok None) = 0
+count_in (Ok (Some n)) = n
+
 abbrev pub row_count : Answer (Option (List Row)) → ℕ
 row_count (refused n) = 0
 row_count (answer None) = 0
 row_count (answer (Some l)) = length l
 
 -- the answer, which says how many rows it fills, with the rows as they are after the call: "Rows past the last stay."
-pub record Filled (w : Answer (Option (List Row))) (old new : List Entry) (a : RowsAnswer) : Type 0 where
-  pub answers : rows_answered new a ≡ in_entries w
+pub record Filled (w : Answer (Option (List Row))) (old new : List Entry) (a : Result (Option ℕ) Refusal) : Type 0 where
+  pub answers : answered (filled_rows new) a ≡ in_entries w
   pub count : count_in a ≡ row_count w
   pub rows : new ≡ filled (in_entries w) old

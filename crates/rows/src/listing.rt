@@ -3,7 +3,7 @@ ghost use Rattle.std.specs.Prelude.{◌≡◌, length};
 ghost use Rattle.stack.specs.Stacks.{Stacked, records_in, node_in};
 ghost use Rattle.merge.specs.Merges.{Ready};
 ghost use Rattle.rows.specs.Listings.{lists_of, rows_listed};
-ghost use Rattle.rows.specs.Plans.{NoRows, Plans, Fits, Advances, Filled, is_directory, is_listed, list_call, room_for, plan_count, plan_row, plan_answer};
+ghost use Rattle.rows.specs.Plans.{NoRows, PlansRows, Plans, Fits, Advances, Fills, Filled, is_directory, is_listed, list_call, plan_row, plan_entries};
 ghost use Rattle.rules.specs.Initial.{usual};
 ghost use Rattle.rules.specs.ReadCalls.{list_directory, list_xattrs};
 ghost use Rattle.attrs.specs.Meant.{kind_meant};
@@ -11,12 +11,12 @@ ghost use Rattle.layers.specs.Attrs.{attr_if};
 
 use attrs::node::{FileAttr, FileType};
 use gather::gather::{Lists, gather_sources};
-use layers::answer::RowsAnswer;
 use layers::attr::shown_attr;
-use merge::merge::{Counted, Merge, count_rows, no_sources, settle};
+use merge::merge::{Merge, count_rows, no_sources, settle};
 use merge::source::no_value;
 use stack::stack::open_image;
 use survey::batch::InodeLayerStack;
+use survey::refusal::Refusal;
 
 // The names of a directory's entries, or those of the attributes.
 #[derive(Clone, Copy)]
@@ -43,16 +43,16 @@ pub struct Entry {
     pub inode: u64,
 }
 
-// What a listing answers, and the rows that it fills.
+// The rows of a listing that are left to fill, and how many they are.
 #[derive(Clone, Copy)]
 pub struct Plan {
     pub merge: Merge,
-    pub answer: RowsAnswer,
+    pub count: usize,
 }
 
 // No row is filled.
-fn no_rows(answer: RowsAnswer) -> Plan
-    ensures { NoRows answer result }
+fn no_rows() -> Plan
+    ensures { NoRows result }
 {
     Plan {
         merge: Merge {
@@ -63,39 +63,30 @@ fn no_rows(answer: RowsAnswer) -> Plan
             inode: 0,
             value: no_value(),
         },
-        answer,
+        count: 0,
     }
 }
 
 // The rows of a stack, if there is room for them.
-fn plan_rows(img: &[u8], stack: InodeLayerStack, listing: Listing, room: usize) -> Plan
+fn plan_rows(
+    img: &[u8],
+    stack: InodeLayerStack,
+    listing: Listing,
+    room: usize,
+) -> Result<Plan, Refusal>
     requires { Stacked img.now stack }
-    ensures { Plans img.now (room_for room (rows_listed listing (records_in img.now stack) (node_in img.now stack))) room result }
+    ensures { PlansRows img.now (rows_listed listing (records_in img.now stack) (node_in img.now stack)) room result }
 {
     let all = gather_sources(img, stack, lists_of(listing));
     match count_rows(img, all, room) {
-        Counted::Rows(count) => {
+        Some(count) => {
             if count == 0 {
-                return no_rows(RowsAnswer::Rows(0));
+                return Ok(no_rows());
             }
-            Plan {
-                merge: settle(img, all),
-                answer: RowsAnswer::Rows(count),
-            }
+            let merge = settle(img, all);
+            Ok(Plan { merge, count })
         }
-        Counted::TooMany => no_rows(RowsAnswer::Refused(5)),
-    }
-}
-
-// How many rows are filled.
-fn row_count(plan: Plan) -> usize
-    ensures { result ≡ plan_count plan }
-{
-    let answer = plan.answer;
-    match answer {
-        RowsAnswer::Rows(count) => count,
-        RowsAnswer::Refused(_) => 0,
-        RowsAnswer::None => 0,
+        None => Err(Refusal::NoRoom),
     }
 }
 
@@ -118,31 +109,25 @@ fn next_row(img: &[u8], plan: Plan) -> Plan
 {
     let merge = plan.merge;
     let all = merge.all;
-    let answer = plan.answer;
+    let count = plan.count;
     Plan {
         merge: settle(img, all),
-        answer,
+        count,
     }
 }
 
-fn answer_of(plan: Plan) -> RowsAnswer
-    ensures { result ≡ plan.answer }
-{
-    plan.answer
-}
-
-// The one function over the rows lent: fills the first of them.
-fn fill_rows(img: &[u8], plan: Plan, rows: &mut [Entry]) -> RowsAnswer
+// The one function over the rows lent: fills the first of them, and answers how many.
+fn fill_rows(img: &[u8], plan: Plan, rows: &mut [Entry]) -> usize
     requires { Fits img.now (length rows.old) plan }
-    ensures { Filled (plan_answer img.now plan) rows.old rows.new result }
+    ensures { Fills (plan_entries img.now plan) rows.old result rows.new }
 {
-    let count = row_count(plan);
+    let count = plan.count;
     let mut rest = plan;
     for row in rows[..count].iter_mut() {
         *row = row_of(rest);
         rest = next_row(img, rest);
     }
-    answer_of(plan)
+    count
 }
 
 fn is_directory(kind: FileType) -> bool
@@ -169,43 +154,47 @@ fn is_listed(listing: Listing, attr: Option<FileAttr>) -> bool
 }
 
 // What a listing answers, and its rows.
-fn plan_listing(img: &[u8], ino: u64, listing: Listing, room: usize) -> Plan
+fn plan_listing(
+    img: &[u8],
+    ino: u64,
+    listing: Listing,
+    room: usize,
+) -> Result<Option<Plan>, Refusal>
     ensures { Plans img.now (list_call listing img.now ino room) room result }
 {
-    let opened = open_image(img, ino);
-    let refusal = opened.refusal;
-    if refusal != 0 {
-        return no_rows(RowsAnswer::Refused(refusal));
-    }
-    let stack = opened.stack;
+    let stack = open_image(img, ino)?;
     if is_listed(listing, shown_attr(img, stack, ino)) {
-        return plan_rows(img, stack, listing, room);
+        let plan = plan_rows(img, stack, listing, room)?;
+        return Ok(Some(plan));
     }
-    no_rows(RowsAnswer::None)
+    Ok(None)
 }
 
-fn plan_directory(img: &[u8], ino: u64, room: usize) -> Plan
-    ensures { Plans img.now (list_directory usual img.now ino room) room result }
+fn list(
+    img: &[u8],
+    ino: u64,
+    listing: Listing,
+    rows: &mut [Entry],
+) -> Result<Option<usize>, Refusal>
+    ensures { Filled (list_call listing img.now ino (length rows.old)) rows.old rows.new result }
 {
-    plan_listing(img, ino, Listing::Entries, room)
-}
-
-fn plan_xattrs(img: &[u8], ino: u64, room: usize) -> Plan
-    ensures { Plans img.now (list_xattrs usual img.now ino room) room result }
-{
-    plan_listing(img, ino, Listing::Attributes, room)
+    let planned = plan_listing(img, ino, listing, rows.len())?;
+    match planned {
+        Some(plan) => Ok(Some(fill_rows(img, plan, rows))),
+        None => Ok(None),
+    }
 }
 
 // The names of a directory, rising by bytes.
-pub fn list_directory(img: &[u8], ino: u64, rows: &mut [Entry]) -> RowsAnswer
+pub fn list_directory(img: &[u8], ino: u64, rows: &mut [Entry]) -> Result<Option<usize>, Refusal>
     ensures { Filled (list_directory usual img.now ino (length rows.old)) rows.old rows.new result }
 {
-    fill_rows(img, plan_directory(img, ino, rows.len()), rows)
+    list(img, ino, Listing::Entries, rows)
 }
 
 // The names of the extended attributes, rising by bytes.
-pub fn list_xattrs(img: &[u8], ino: u64, rows: &mut [Entry]) -> RowsAnswer
+pub fn list_xattrs(img: &[u8], ino: u64, rows: &mut [Entry]) -> Result<Option<usize>, Refusal>
     ensures { Filled (list_xattrs usual img.now ino (length rows.old)) rows.old rows.new result }
 {
-    fill_rows(img, plan_xattrs(img, ino, rows.len()), rows)
+    list(img, ino, Listing::Attributes, rows)
 }

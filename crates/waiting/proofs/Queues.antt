@@ -93,6 +93,9 @@ module _ {img : List ℕ} {at : ℕ} {o : Result (ℕ × ℕ) Fault} {x : ℕ ×
   pub queue-read : {r : Queue} → Totalled img x.1 x.0 r → QueueAt img at r
   queue-read t = record { count = o; reads = a; totals = rw e at t }
 
+pub queue-few : {img : List ℕ} {at : ℕ} {r : Queue} → QueueAt img at r → r.count ≤ 16
+queue-few k = omega (arith, k.totals.counts, few-read {x = result_unwrap_or k.count (0, 0)} k.reads refl)
+
 -- ---- of batches that were written
 
 pub sum-queue : (f : HeadParts → ℕ) (bs : List Batch) (t : List ℕ) → Every FitsBatch bs → sum_from f (length bs) (queue_bytes bs ++ t) ≡ sum_of (λ b. f (head_of b)) bs

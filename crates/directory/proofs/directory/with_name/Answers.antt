@@ -5,12 +5,12 @@ use Rattle.directory.proofs.directory.with_name.Goals as goal
 pub replaced-requires : goal.replaced-requires
 replaced-requires c = c.cut_records-cut.ensures.few
 
-pub returns-in-Directory : goal.returns-in-Directory
-returns-in-Directory c = name_set c.cut_records-cut.ensures c.live_directory-live.ensures c.in-Directory.is c.stamped.ensures c.with_row.ensures
-    c.with_row-in-Directory.ensures c.replaced.ensures
+pub returns-in-Some : goal.returns-in-Some
+returns-in-Some c = name_set c.cut_records-cut.ensures c.live_directory.ensures c.in-Some.is c.stamped.ensures c.with_row.ensures
+    c.with_row-in-Some.ensures c.replaced.ensures
 
-pub returns-in-Other : goal.returns-in-Other
-returns-in-Other c = record {
+pub returns-in-None : goal.returns-in-None
+returns-in-None c = record {
   alters = λ a oa b ob.
-      stays_same c.cut_records-cut.ensures c.live_directory-live.ensures c.in-Other.is (named_change _ _ a b) c.unchanged.ensures;
+      stays_same c.cut_records-cut.ensures c.live_directory.ensures c.in-None.is (named_change _ _ a b) c.unchanged.ensures;
 }

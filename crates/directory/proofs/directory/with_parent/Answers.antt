@@ -2,8 +2,8 @@ use Rattle.rules.specs.Changes.{setting_parent}
 use Rattle.directory.proofs.Directories.{parent-set, stays_same}
 use Rattle.directory.proofs.directory.with_parent.Goals as goal
 
-pub returns-in-Directory : goal.returns-in-Directory
-returns-in-Directory c = parent-set c.cut_records-cut.ensures c.live_directory-live.ensures c.in-Directory.is _ c.kept.ensures c.kept-in-Directory.ensures c.replaced.ensures
+pub returns-in-Some : goal.returns-in-Some
+returns-in-Some c = parent-set c.cut_records-cut.ensures c.live_directory.ensures c.in-Some.is _ c.kept.ensures c.kept-in-Some.ensures c.replaced.ensures
 
-pub returns-in-Other : goal.returns-in-Other
-returns-in-Other c = stays_same c.cut_records-cut.ensures c.live_directory-live.ensures c.in-Other.is (setting_parent _) c.unchanged.ensures
+pub returns-in-None : goal.returns-in-None
+returns-in-None c = stays_same c.cut_records-cut.ensures c.live_directory.ensures c.in-None.is (setting_parent _) c.unchanged.ensures

@@ -5,4 +5,4 @@ use Rattle.image.specs.Under.{under}
 use Rattle.directory.proofs.name.cut_names.Goals as goal
 
 pub returns : goal.returns
-returns c = cut_list_lem by_bytes nameText (under c.args.what) _ c.read_number-count.ensures (rw c.place_at.ensures at c.cut_named.ensures)
+returns c = cut_list_lem by_bytes nameText (under c.args.what) c.read_number.ensures c.unwrap_or-count.ensures c.cut_named.ensures

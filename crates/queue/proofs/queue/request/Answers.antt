@@ -1,13 +1,17 @@
+use Rattle.wire.proofs.Readers.{handed}
 use Rattle.rules.specs.Calls.{Call}
 use Rattle.change.proofs.Finishing.{changes-unopened}
-use Rattle.queue.proofs.Staging.{request-refused, request-made}
+use Rattle.queue.proofs.Staging.{tail-ok, request-refused, request-made}
 use Rattle.queue.proofs.queue.request.Goals as goal
 
-pub returns-then-opened-ne0 : goal.returns-then-opened-ne0
-returns-then-opened-ne0 c = changes-unopened (Call.request _) c.open_sections-opened.ensures c.if-opened-ne0.true
+pub returns-in_err-sections : goal.returns-in_err-sections
+returns-in_err-sections c = changes-unopened (Call.request _) _ c.open_sections.ensures.verdict c.in_err-sections.was (handed c.from_residual.ensures)
 
 pub returns-then-reason-gt5 : goal.returns-then-reason-gt5
-returns-then-reason-gt5 c = request-refused (c.open_sections-opened.ensures.sections c.if-opened-ne0.false).1 c.if-reason-gt5.true
+returns-then-reason-gt5 c = request-refused c.in_ok-sections.ensures.sections.1 c.if-reason-gt5.true
+
+pub unwrap-requires : goal.unwrap-requires
+unwrap-requires c = tail-ok c.in_ok-sections.ensures.sections.1 _ c.read_tail.ensures
 
 pub returns : goal.returns
-returns c = request-made (c.open_sections-opened.ensures.sections c.if-opened-ne0.false).1 _ c.if-reason-gt5.false c.read_tail-read.ensures c.write_queue.ensures
+returns c = request-made c.in_ok-sections.ensures.sections.1 c.read_tail.ensures c.unwrap.ensures c.if-reason-gt5.false c.write_queue.ensures
