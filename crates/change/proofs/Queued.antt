@@ -1,6 +1,6 @@
 -- The batches of an image that may be used: their count, and where they stand after it.
 -- Assumes nothing.
-use Rattle.std.specs.Prelude.{Result, Ok}
+use Rattle.std.specs.Prelude.{Result, Ok, IsOk, is_ok}
 use Rattle.std.specs.Result.{result_unwrap_or}
 use mathlib.Core.Path.{◌≡◌, refl, sym, ap}
 use mathlib.Core.List.{List, ◌++◌}
@@ -32,3 +32,6 @@ module _ {img : List ℕ} {p : Sections} {s : Store} (w : Stands img p s) where
 
       pub stands-queue : Spans img x.1 (queue_bytes s.batches) p.live
       stands-queue = rw counted (span-back (number_bytes (length s.batches)) (queue_bytes s.batches) queue-span)
+
+  pub counts-ok : (o : Result (ℕ × ℕ) Fault) → Reads img (number_read 16) p.batches o → IsOk o
+  counts-ok o a = ap is_ok (stands-counted a)

@@ -6,7 +6,7 @@ use Prim.Native.Nat.{ℕ, ◌+◌, ◌-◌, ◌≤◌}
 use native.Mathlib.Omega.{arith}
 use lib.ListN.{length, drop, length-append, length-drop, drop_of_length-le}
 use lib.Seq.{take_at, drop-drop, drop-append_seam}
-use Rattle.std.specs.Prelude.{Result, Ok, Err, IsOk, is_ok, Bool, true}
+use Rattle.std.specs.Prelude.{Result, Ok, Err, IsOk, is_ok, true}
 use Rattle.std.specs.Result.{result_unwrap_or}
 use Rattle.wire.specs.declared.fault.Fault.{Fault}
 use Rattle.wire.specs.Parse.{Parsed, fault, got, never-got}

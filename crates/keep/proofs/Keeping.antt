@@ -1,19 +1,18 @@
 -- A list by name in step with the names that lead somewhere below: which rows stay.
 -- Assumes nothing.
-use Rattle.std.specs.Prelude.{None, Option, Some}
+use Rattle.std.specs.Prelude.{None, Option, Some, is_some, Result, Ok, Err, not}
 use mathlib.Core.Path.{◌≡◌, refl, sym, ap, ◌∙◌}
 use mathlib.Core.Bool.{Bool, true, false, cond}
 use mathlib.Core.List.{List, [], ◌∷◌, ◌++◌}
 use Prim.Native.Nat.{ℕ, zero, suc, ◌+◌, ◌-◌, ◌≤◌, ◌<◌}
 use native.Mathlib.Omega.{arith}
 use lib.Dec.{eqb}
-use borrow.Author.Tests.{eq-eqb, ne_eqb}
 use lib.ListN.{length, drop}
-use Rattle.wire.specs.declared.cursor.Cursor.{Cursor}
-use Rattle.wire.specs.declared.cursor.Cursor.TheVariants.{At}
+use Rattle.std.specs.Result.{result_unwrap_or}
+use Rattle.wire.specs.declared.fault.Fault.{Fault}
 use Rattle.std.specs.declared.cmp.Ordering.{Ordering}
 use Rattle.std.specs.declared.cmp.Ordering.TheVariants.{Less, Equal, Greater}
-use Rattle.wire.specs.Parse.{got}
+use Rattle.wire.specs.Parse.{got, never-got}
 use Rattle.wire.specs.Combinators.{◌then◌}
 use Rattle.wire.specs.Number.{edge, number_read, number_bytes}
 use Rattle.wire.specs.Order.{Order}
@@ -26,7 +25,7 @@ use Rattle.image.specs.Places.{rows_from}
 use Rattle.rules.specs.Reads.{is_there}
 use Rattle.change.proofs.Cutting.{chain-rows}
 use Rattle.wire.specs.Put.{Put}
-use Rattle.wire.specs.Reading.{Answers, part}
+use Rattle.wire.specs.Reading.{Reads, part}
 use Rattle.wire.proofs.Puts.{put-append, put-length}
 use Rattle.image.specs.Meaning.{Text}
 use Rattle.image.specs.FieldLayout.{name}
@@ -172,35 +171,37 @@ module _ {img : List ℕ} {m : Merge} {k : Text} (a : AtName img m k) where
 
 -- ---- whether a row stays
 
-eqb-self : (n : ℕ) → eqb n n ≡ true
-eqb-self n = eq-eqb n n refl
-
-eqb_apart : (i n : ℕ) → (i ≡ n → ⊥) → eqb i n ≡ false
-eqb_apart i n h = ne_eqb i n h
-
 module _ {img : List ℕ} {b : Option ℕ} {p : ℕ} where
   pub keeps-unled : b ≡ None → Keeps img U.Inode b p true
   keeps-unled e = record { is = λ v s d. rw e }
 
-  module _ {i : ℕ} (e : b ≡ Some i) {n : ℕ} {next : Cursor} (a : Answers img (number_read edge) (At p) 0 n next) where
-    pub keeps_same : i ≡ n → Keeps img U.Inode b p false
-    keeps_same h = record { is = λ v s d. let z : n ≡ v = read_same d a.reads in rw (e, h, z, eqb-self v) }
+  module _ {i : ℕ} (e : b ≡ Some i) {o : Result (ℕ × ℕ) Fault} (a : Reads img (number_read edge) p o) {x : ℕ × ℕ} (z : x ≡ result_unwrap_or o (0, 0)) where
+    read-is : {v : ℕ} {s : List ℕ} → number_read edge (drop p img) ≡ got v s → x.0 ≡ v
+    read-is {v} d = go o a z
+      where
+        go : (o : Result (ℕ × ℕ) Fault) → Reads img (number_read edge) p o → x ≡ result_unwrap_or o (0, 0) → x.0 ≡ v
+        go (Ok y) a z = ap (λ (x : ℕ × ℕ). x.0) z ∙ read_same d a refl
+        go (Err f) a z = never-got (sym a.same ∙ d)
 
-    pub keeps-other : (i ≡ n → ⊥) → Keeps img U.Inode b p true
-    keeps-other h = record { is = λ v s d. let z : n ≡ v = read_same d a.reads in rw (e, ← z, eqb_apart i n h) }
+    pub keeps_entry : Keeps img U.Inode b p (not (eqb i x.0))
+    keeps_entry = record { is = λ v s d. rw (e, read-is d) }
+
+is_there-some : (o : Option ℕ) → is_some o ≡ is_there o
+is_there-some None = refl
+is_there-some (Some i) = refl
 
 module _ {img : List ℕ} {u : UnderN.Under} {o : Option ℕ} {p : ℕ} {r : Bool} where
-  pub keeps_entry : u ≡ U.Inode → Keeps img U.Inode o p r → Keeps img u o p r
-  keeps_entry e h = rw e h
+  pub keeps-inode : u ≡ U.Inode → Keeps img U.Inode o p r → Keeps img u o p r
+  keeps-inode e h = rw e h
 
-  pub keeps-name : u ≡ U.Nothing → r ≡ is_there o → Keeps img u o p r
-  keeps-name e h = rw e (record { is = λ v s d. h })
+  pub keeps-name : u ≡ U.Nothing → r ≡ is_some o → Keeps img u o p r
+  keeps-name e h = rw e (record { is = λ v s d. h ∙ is_there-some o })
 
-  pub keeps-value : u ≡ U.Value → r ≡ is_there o → Keeps img u o p r
-  keeps-value e h = rw e (record { is = λ v s d. h })
+  pub keeps-value : u ≡ U.Value → r ≡ is_some o → Keeps img u o p r
+  keeps-value e h = rw e (record { is = λ v s d. h ∙ is_there-some o })
 
-  pub keeps-change : u ≡ U.Change → r ≡ is_there o → Keeps img u o p r
-  keeps-change e h = rw e (record { is = λ v s d. h })
+  pub keeps-change : u ≡ U.Change → r ≡ is_some o → Keeps img u o p r
+  keeps-change e h = rw e (record { is = λ v s d. h ∙ is_there-some o })
 
 -- ---- the rows that stay, one after the other
 

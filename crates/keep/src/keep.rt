@@ -5,21 +5,19 @@ ghost use Rattle.wire.specs.Number.{edge};
 ghost use Rattle.wire.specs.Put.{Put};
 ghost use Rattle.change.specs.Sections.{between};
 ghost use Rattle.wire.specs.Reading.{part as part_of};
-ghost use Rattle.rules.specs.Reads.{is_there};
 ghost use Rattle.nodes.specs.Listed.{by_name, list_at};
 ghost use Rattle.lookup.specs.Search.{IsList};
 ghost use Rattle.keep.specs.Keeps.{Rises, AtName, Sought, leads_in, Keeps, PutsRow, PutsKept, kept_map};
 
-use std::cmp::Ordering;
 use change::copy::put_between;
 use image::name::Under;
 use lookup::search::{read_row, rows_of};
 use merge::merge::{Merge, settle};
-use wire::text::Part;
-use wire::cursor::Cursor;
+use std::cmp::Ordering;
 use wire::number::{put_number, read_number};
 use wire::order::compare_part;
 use wire::part::part;
+use wire::text::Part;
 
 // The place after the rows that stay, and how many they are.
 #[derive(Clone, Copy)]
@@ -61,15 +59,6 @@ fn leads_to(img: &[u8], merge: Merge, start: usize, length: usize) -> Option<u64
     None
 }
 
-fn is_there(below: Option<u64>) -> bool
-    ensures { result ≡ is_there below }
-{
-    match below {
-        Some(_) => true,
-        None => false,
-    }
-}
-
 // An entry stays, unless its name leads to the same inode below.
 fn is_entry_kept(img: &[u8], below: Option<u64>, under: usize) -> bool
     ensures { Keeps img.now U.Inode below under result }
@@ -77,11 +66,8 @@ fn is_entry_kept(img: &[u8], below: Option<u64>, under: usize) -> bool
     let Some(inode) = below else {
         return true;
     };
-    let number = read_number(img, Cursor::At(under), 0xFFFF_FFFF_FFFF_FFFF);
-    if inode == number.value {
-        return false;
-    }
-    true
+    let (number, _) = read_number(img, under, u64::MAX).unwrap_or((0, 0));
+    inode != number
 }
 
 // A removed name stays, if it leads anywhere.
@@ -90,9 +76,9 @@ fn is_kept(img: &[u8], what: Under, below: Option<u64>, under: usize) -> bool
 {
     match what {
         Under::Inode => is_entry_kept(img, below, under),
-        Under::Nothing => is_there(below),
-        Under::Value => is_there(below),
-        Under::Change => is_there(below),
+        Under::Nothing => below.is_some(),
+        Under::Value => below.is_some(),
+        Under::Change => below.is_some(),
     }
 }
 

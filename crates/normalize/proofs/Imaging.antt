@@ -1,6 +1,6 @@
 -- The image with a layer normalised is that of the store with the layer normalised.
 -- Assumes nothing.
-use Rattle.std.specs.Prelude.{None, Option, Some}
+use Rattle.std.specs.Prelude.{None, Option, Some, Result, Ok, Err}
 use mathlib.Core.Path.{◌≡◌, refl, sym, ap, ◌∙◌}
 use mathlib.Core.Bool.{true, false}
 use mathlib.Core.List.{List, [], ◌∷◌, ◌++◌, map, append_assoc, append-nil}
@@ -10,8 +10,8 @@ use native.Mathlib.Numerals.{add-one}
 use lib.ListN.{length, take, drop, get_or}
 use lib.Seq.{take-suc}
 use borrow.Author.Tests.{lt-ltb, le-ltb}
-use Rattle.wire.specs.declared.cursor.Cursor.{Cursor}
-use Rattle.wire.specs.declared.cursor.Cursor.TheVariants.{At}
+use Rattle.std.specs.Result.{result_unwrap_or}
+use Rattle.wire.specs.declared.fault.Fault.{Fault}
 use Rattle.std.specs.declared.cmp.Ordering.{Ordering}
 use Rattle.std.specs.declared.cmp.Ordering.TheVariants.{Less, Equal, Greater}
 use Rattle.wire.specs.Number.{number_bytes, number_read, number_to}
@@ -22,7 +22,7 @@ use Rattle.wire.specs.RowLaws.{ext}
 use Rattle.wire.specs.Maps.{Map, meet, merge, empty, get, get-merge, get-empty}
 use Rattle.wire.specs.Lists.{last_count}
 use Rattle.wire.specs.Put.{Put}
-use Rattle.wire.specs.Reading.{Answers}
+use Rattle.wire.specs.Reading.{Reads}
 use Rattle.wire.proofs.Puts.{put-append}
 use Rattle.image.specs.Meaning.{Base, Layer, Batch, Store}
 use Rattle.image.specs.FieldLayout.{inode}
@@ -31,7 +31,6 @@ use Rattle.image.specs.RecordLayout.{layer_record, records}
 use Rattle.image.specs.StoreLayout.{batches}
 use Rattle.survey.specs.Gathering.{batch_head}
 use Rattle.image.specs.RoundTrip.{write_image}
-use Rattle.image.proofs.RoundTrip.{read_fits}
 use Rattle.writers.specs.Tails.{tail}
 use Rattle.rules.specs.Initial.{usual}
 use Rattle.rules.specs.Calls.{Call}
@@ -42,16 +41,16 @@ use Rattle.rules.specs.Normalise.{normal_layer, normal_batches, normal_live}
 use Rattle.rules.specs.ChangeCalls.{by_rules}
 use Rattle.walk.specs.Walks.{Ready}
 use Rattle.change.specs.Cuts.{rows_bytes}
-use Rattle.change.specs.Sections.{between, Spans, Stands, Opens, tail_of}
+use Rattle.change.specs.Sections.{between, Spans, Stands, tail_of}
 use Rattle.change.specs.Changed.{Changes, lacks_room}
-use Rattle.change.specs.declared.answer.ChangeAnswer.{ChangeAnswer}
-use Rattle.change.specs.declared.answer.ChangeAnswer.TheVariants as C
+use Rattle.survey.specs.declared.refusal.Refusal.{Refusal}
+use Rattle.survey.specs.declared.refusal.Refusal.TheVariants as D
 use Rattle.change.specs.declared.section.Sections.{Sections}
-use Rattle.change.specs.declared.section.Opened.{Opened}
 use Rattle.change.proofs.Batches.{head_of, batch_bytes, queue_bytes, batches-bytes}
 use Rattle.change.proofs.Cutting.{chain-rows}
 use Rattle.change.proofs.Finishing.{finish-roomless, finish-written, changes-refused, changes-made}
-use Rattle.change.proofs.Sections.{span-part, span-front, span-both, span-reads, store_bytes}
+use Rattle.change.proofs.Sections.{span-part, span-front, span-both, span-reads, value-is, stands-fits, store_bytes}
+use Rattle.change.proofs.Queued.{stands-count}
 use Rattle.walk.specs.Opens.{layer_bytes, layer_at, LayersOf, OpensLayers}
 use Rattle.walk.specs.declared.open.Layers.{Layers}
 use Rattle.walk.proofs.Opening.{count-layers, layer_fits, live-fits, layers-start}
@@ -109,21 +108,22 @@ normal-write ls b l = rw (normal-rows ls b l, map-length (normal_row b ls) l.row
 
 -- ---- the image written
 
-pub image-put : {img : List ℕ} {w : Layers} {old b₁ b₂ b₃ new : List ℕ} {n q₁ q₂ q₃ r : ℕ} {next : Cursor} → Answers img (number_read last_count) (At w.top) 0 n next
-    → Put old 0 (between img 0 w.top) q₁ b₁ → Put b₁ q₁ (number_bytes n) q₂ b₂ → PutsRows img w.walk b₂ q₂ q₃ b₃ → Put b₃ q₃ (between img w.end (length img)) r new
+pub image-put : {img : List ℕ} {w : Layers} {old b₁ b₂ b₃ new : List ℕ} {q₁ q₂ q₃ r : ℕ} {o : Result (ℕ × ℕ) Fault} {x : ℕ × ℕ} → Reads img (number_read last_count) w.top o → x ≡ result_unwrap_or o (0, 0)
+    → Put old 0 (between img 0 w.top) q₁ b₁ → Put b₁ q₁ (number_bytes x.0) q₂ b₂ → PutsRows img w.walk b₂ q₂ q₃ b₃ → Put b₃ q₃ (between img w.end (length img)) r new
     → PutsImage img w old r new
-image-put {img} {w} {n = n} {next = next} a p q t v = record {
+image-put {img} {w} {o = o} {x} a e p q t v = record {
   puts = λ b ls l h.
       let nb = number_bytes (length l.rows) in
-      let z = span-reads (number_to last_count refl) {a = length l.rows} (span-front nb _ h.stands) (omega (arith, h.fits.count)) next a.reads in
-      rw (normal-write ls b l, append_assoc) (put-append p (put-append (rw z.0 at q) (put-append (t.puts b ls l h.over) v)));
+      let z = span-reads (number_to last_count refl) {a = length l.rows} (span-front nb _ h.stands) (omega (arith, h.fits.count)) a in
+      let y : x.0 ≡ length l.rows = ap (λ (x : ℕ × ℕ). x.0) (value-is (0, 0) z e) in
+      rw (normal-write ls b l, append_assoc) (put-append p (put-append (rw y at q) (put-append (t.puts b ls l h.over) v)));
 }
 
 module _ {img : List ℕ} {w : Layers} {n₁ n₂ : List ℕ} {size : ℕ} (p : PutsImage img w n₁ size n₂) where
-  pub image-roomless : {old : List ℕ} → lacks_room size (length old) ≡ true → WritesImage img w old (C.Refused 5) old
+  pub image-roomless : {old : List ℕ} → lacks_room size (length old) ≡ true → WritesImage img w old (Err D.NoRoom) old
   image-roomless h = record { writes = λ b ls l g. finish-roomless (p.puts b ls l g) h }
 
-  pub image-written : {q : ℕ} {old new : List ℕ} → lacks_room size (length old) ≡ false → PutsImage img w old q new → WritesImage img w old (C.Length q) new
+  pub image-written : {q : ℕ} {old new : List ℕ} → lacks_room size (length old) ≡ false → PutsImage img w old q new → WritesImage img w old (Ok q) new
   image-written h k = record { writes = λ b ls l g. finish-written (p.puts b ls l g) h (k.puts b ls l g) }
 
 -- ---- where the layer stands in the image
@@ -215,32 +215,23 @@ module _ {img : List ℕ} {s : Store} {p : Sections} (w : Stands img p s) {n : �
 
 -- ---- the call
 
-module _ {img : List ℕ} {r : Opened} (o : Opens img r) (z : r.refusal ≡ 0) {count : ℕ} {next : Cursor} (a : Answers img (number_read 16) (At r.sections.batches) 0 count next) where
-  abbrev s : Store
-  s = (o.sections z).0
+module _ {img : List ℕ} {p : Sections} {s : Store} (w : Stands img p s) {o : Result (ℕ × ℕ) Fault} (a : Reads img (number_read 16) p.batches o) {y : ℕ × ℕ} (d : o ≡ Ok y) where
+  counted : y.0 ≡ length s.batches
+  counted = stands-count w a d
 
-  w : Stands img r.sections s
-  w = (o.sections z).1
-
-  counted : count ≡ length s.batches
+  pub few-batches : y.0 ≤ 16
   unfolding batches
-  counted =
-      let nb = number_bytes (length s.batches) in
-      (span-reads (number_to 16 refl) {a = length s.batches} (span-front nb _ (rw (batches-bytes s.batches) at w.batches)) (read_fits img s w.is).batches.count next a.reads).0
-
-  pub few-batches : count ≤ 16
-  unfolding batches
-  few-batches = omega (arith, counted, (read_fits img s w.is).batches.count)
+  few-batches = omega (arith, counted, (stands-fits w).batches.count)
 
   -- "11 if the position is above the number of batches"
-  pub position-refused : {n : ℕ} → count < n → {old : List ℕ} → Changes (by_rules usual (Call.normalise n) img (length old)) old (C.Refused 11) old
+  pub position-refused : {n : ℕ} → y.0 < n → {old : List ℕ} → Changes (by_rules usual (Call.normalise n) img (length old)) old (Err D.NoLayer) old
   position-refused {n} h = changes-refused (Call.normalise n) w (rw (lt-ltb (length s.batches) n (omega (arith, counted))))
 
-  module _ {n : ℕ} (h : n ≤ count) {l : Layers} (g : OpensLayers img r.sections (n + 1) l) where
+  module _ {n : ℕ} (h : n ≤ y.0) {l : Layers} (g : OpensLayers img p (n + 1) l) where
     long : n + 1 ≤ length (layers s)
     long = omega (arith, counted, count-layers s.batches s.live)
 
-    opened : LayersOf img s r.sections.tail (n + 1) l.walk l.top l.end
+    opened : LayersOf img s p.tail (n + 1) l.walk l.top l.end
     opened = g.opens s w long
 
     pub layers-ready : Ready img l.walk
@@ -249,14 +240,14 @@ module _ {img : List ℕ} {r : Opened} (o : Opens img r) (z : r.refusal ≡ 0) {
     there : LayerAt img l s.base (take n (layers s)) (layer_at s n)
     there =
         let e : n + 1 - 1 ≡ n = omega arith in
-        let f = read_fits img s w.is in
+        let f = stands-fits w in
         record {
           over = rw (add-one, take-suc (layers s) n (empty by_number) (omega (arith, long))) at opened.over;
           stands = rw e at (opened.top (omega arith));
           fits = layer_fits s.batches s.live n f.batches.each (live-fits s f) (omega (arith, long));
         }
 
-    pub position-changed : {old new : List ℕ} {x : ChangeAnswer} → WritesImage img l old x new → Changes (by_rules usual (Call.normalise n) img (length old)) old x new
+    pub position-changed : {old new : List ℕ} {x : Result ℕ Refusal} → WritesImage img l old x new → Changes (by_rules usual (Call.normalise n) img (length old)) old x new
     position-changed v =
         changes-made (Call.normalise n) w (rw (le-ltb (length s.batches) n (omega (arith, counted))))
         (normal-image w (omega (arith, counted)) there.stands (rw add-one at opened.rest)) (v.writes s.base (take n (layers s)) (layer_at s n) there)

@@ -1,6 +1,6 @@
 -- What is written of a record that is held against its stack below.
 -- Assumes nothing.
-use Rattle.std.specs.Prelude.{None, Option, Some}
+use Rattle.std.specs.Prelude.{None, Option, Some, Result, Ok, Err}
 use mathlib.Core.Path.{◌≡◌, refl, sym, ap, ◌∙◌, subst, fun_ext}
 use mathlib.Core.Bool.{true, false}
 use mathlib.Core.List.{List, [], ◌∷◌, ◌++◌, append_assoc, append-nil}
@@ -10,14 +10,13 @@ use lib.ListN.{length, take, drop, get_or, length-append, length-drop}
 use lib.Seq.{take_at}
 use denote.Enum.Declared.{tag_of}
 use types.Run.{OneOf}
-use Rattle.wire.specs.declared.cursor.Cursor.{Cursor}
-use Rattle.wire.specs.declared.cursor.Cursor.TheVariants.{At, Stop}
+use Rattle.std.specs.Result.{result_unwrap_or}
+use Rattle.wire.specs.declared.fault.Fault.{Fault}
 use Rattle.wire.specs.Parse.{never-got}
 use Rattle.wire.specs.Number.{number_bytes}
 use Rattle.wire.specs.Orders.{by_bytes}
 use Rattle.wire.specs.Maps.{empty}
 use Rattle.wire.specs.Put.{Put}
-use Rattle.wire.specs.Reading.{place_at}
 use Rattle.wire.proofs.Puts.{put-append}
 use Rattle.image.specs.Meaning.{Text, Kind, Entries, Names, Fields, Record, directory, file, symlink, special, delta}
 use Rattle.image.specs.Masks.{maybe}
@@ -156,13 +155,13 @@ other-normal img n h B k =
 
 -- ---- a record as it stands
 
-pub copied : {img : List ℕ} {place : ℕ} (next : Cursor) {q : ℕ} → Ends img layer_record.read (At place) next → q ≡ place_at next → {old new : List ℕ} {at r : ℕ}
+pub copied : {img : List ℕ} {place : ℕ} {o : Result ℕ Fault} {q : ℕ} → Ends img layer_record.read place o → q ≡ result_unwrap_or o 0 → {old new : List ℕ} {at r : ℕ}
     → Put old at (between img place q) r new → Copies img place old at r new
-copied {img} {place} next {q} h e {old} {new} {at} {r} p = record { copies = λ x g. go next h e x g }
+copied {img} {place} {o} {q} h e {old} {new} {at} {r} p = record { copies = λ x g. go o h e x g }
   where
-    go : (next : Cursor) → Ends img layer_record.read (At place) next → q ≡ place_at next → (x : EntryDelta) → RecordIs img place x → Put old at (layer_record.write (entry_meant img x)) r new
-    go (Stop f) h e x g = never-got (sym (ends-fault h) ∙ g.reads.reads.same)
-    go (At n) h e x g =
+    go : (o : Result ℕ Fault) → Ends img layer_record.read place o → q ≡ result_unwrap_or o 0 → (x : EntryDelta) → RecordIs img place x → Put old at (layer_record.write (entry_meant img x)) r new
+    go (Err f) h e x g = never-got (sym (ends-fault h) ∙ g.reads.reads.same)
+    go (Ok n) h e x g =
         let y = ends-got h in
         let z : entry_meant img x ≡ y.0 = cc (g.reads.reads.same, y.1) in
         let w = (layer_record-one.forth _ _ _ y.1).0 in

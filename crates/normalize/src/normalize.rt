@@ -7,42 +7,43 @@ ghost use Rattle.walk.specs.Walks.{Ready};
 ghost use Rattle.normalize.specs.Images.{PutsImage, WritesImage};
 
 use crate::layer::put_normal_rows;
-use change::answer::{ChangeAnswer, lacks_room};
+use change::answer::lacks_room;
 use change::copy::put_between;
 use change::section::open_sections;
+use image::field::LAST_WORD;
+use survey::refusal::Refusal;
 use walk::open::{Layers, open_layers};
-use wire::cursor::Cursor;
 use wire::number::{put_number, read_number};
 
 // Holds each directory delta of the layer at a position against the layers below. Live is at the number of batches.
-pub fn normalize_directory_deltas(img: &[u8], position: u64, target: &mut [u8]) -> ChangeAnswer
+pub fn normalize_directory_deltas(
+    img: &[u8],
+    position: u64,
+    target: &mut [u8],
+) -> Result<usize, Refusal>
     ensures { Changes (normalize_directory_deltas usual img.now position (length target.old)) target.old result target.new }
 {
-    let opened = open_sections(img);
-    if opened.refusal != 0 {
-        return ChangeAnswer::Refused(opened.refusal);
-    }
-    let sections = opened.sections;
-    let count = read_number(img, Cursor::At(sections.batches), 16);
-    if count.value < position {
-        return ChangeAnswer::Refused(11);
+    let sections = open_sections(img)?;
+    let (count, _) = read_number(img, sections.batches, 16).unwrap();
+    if count < position {
+        return Err(Refusal::NoLayer);
     }
     let layers = open_layers(img, sections, position + 1);
     write_normal(img, layers, target)
 }
 
 // Measures the new image, and writes it to the target if there is room.
-fn write_normal(img: &[u8], layers: Layers, target: &mut [u8]) -> ChangeAnswer
+fn write_normal(img: &[u8], layers: Layers, target: &mut [u8]) -> Result<usize, Refusal>
     requires { Ready img.now layers.walk }
     ensures { WritesImage img.now layers target.old result target.new }
 {
     let mut none = [0u8; 0];
     let size = put_normal(&mut none, img, layers);
     if lacks_room(size, target.len()) {
-        return ChangeAnswer::Refused(5);
+        return Err(Refusal::NoRoom);
     }
     let end = put_normal(target, img, layers);
-    ChangeAnswer::Length(end)
+    Ok(end)
 }
 
 // The image, with its topmost layer of the walk normalised: all before and after its records is copied.
@@ -51,9 +52,9 @@ fn put_normal(buf: &mut [u8], img: &[u8], layers: Layers) -> usize
     ensures { PutsImage img.now layers buf.old result buf.new }
 {
     let walk = layers.walk;
-    let count = read_number(img, Cursor::At(layers.top), 0xFFFF_FFFF);
+    let (count, _) = read_number(img, layers.top, LAST_WORD).unwrap_or((0, 0));
     let counted = put_between(buf, 0, img, 0, layers.top);
-    let first = put_number(buf, counted, count.value);
+    let first = put_number(buf, counted, count);
     let next = put_normal_rows(buf, first, img, walk);
     put_between(buf, next, img, layers.end, img.len())
 }

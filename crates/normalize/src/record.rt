@@ -21,24 +21,12 @@ use passes::record::pass_record;
 use stack::file_type::type_in;
 use stack::stack::record_at;
 use survey::batch::InodeLayerStack;
-use wire::cursor::{Cursor, place_at};
 use wire::number::put_number;
 
 fn is_directory(found: Option<FileType>) -> bool
     ensures { result ≡ is_directory (type_of found) }
 {
-    let Some(file_type) = found else {
-        return false;
-    };
-    match file_type {
-        FileType::Directory => true,
-        FileType::RegularFile => false,
-        FileType::Symlink => false,
-        FileType::NamedPipe => false,
-        FileType::CharDevice => false,
-        FileType::BlockDevice => false,
-        FileType::Socket => false,
-    }
+    matches!(found, Some(FileType::Directory))
 }
 
 // Writes a directory delta: as it stands up to its lists, and then what stays of them.
@@ -70,8 +58,8 @@ fn put_normal_directory(
 fn put_record(buf: &mut [u8], at: usize, img: &[u8], place: usize) -> usize
     ensures { Copies img.now place buf.old at result buf.new }
 {
-    let next = pass_record(img, Cursor::At(place));
-    put_between(buf, at, img, place, place_at(next))
+    let end = pass_record(img, place).unwrap_or(0);
+    put_between(buf, at, img, place, end)
 }
 
 // Writes the topmost record of a stack: as it stands, unless it is a directory delta.

@@ -6,7 +6,7 @@ use Prim.Native.Nat.{ℕ, ◌+◌, ◌-◌}
 use native.Mathlib.Omega.{arith}
 use lib.ListN.{length, drop_of_length-le}
 use borrow.Author.Tests.{eq-eqb, ne_eqb}
-use Rattle.std.specs.Prelude.{Result, Ok, Err, IsOk, is_ok}
+use Rattle.std.specs.Prelude.{Result, Ok, Err, IsOk}
 use Rattle.wire.specs.declared.fault.Fault.{Fault}
 use Rattle.wire.specs.Number.{number_bytes, number_read}
 use Rattle.wire.specs.Reading.{Reads, meant}
@@ -32,17 +32,14 @@ use Rattle.writers.specs.declared.batch.BatchHead.{BatchHead}
 use Rattle.change.specs.declared.section.Sections.{Sections}
 use Rattle.change.proofs.Sections.{span-part, span-front, span-back, span-both, reads-got, meant-ok, meant-is, store_bytes, stands-fits}
 use Rattle.change.proofs.Finishing.{changes-refused, changes-made}
-use Rattle.change.proofs.Queued.{stands-counted, stands-count, stands-queue}
+use Rattle.change.proofs.Queued.{stands-count, stands-queue}
 use Rattle.change.proofs.Batches.{head_of, batch_bytes, queue_bytes, batches-bytes, pass-back}
 
 first_of : {A : Type 0} (l : List A) → (length l ≡ 0 → ⊥) → (a : A) × (t : List A) × (l ≡ a ∷ t)
 first_of [] h = absurd (h refl)
 first_of (a ∷ l) h = (a, l, refl)
 
-module _ {img : List ℕ} {p : Sections} {s : Store} (w : Stands img p s) (o : Result (ℕ × ℕ) Fault) (a : Reads img (number_read 16) p.batches o) where
-  pub counts-ok : IsOk o
-  counts-ok = ap is_ok (stands-counted w a)
-
+module _ {img : List ℕ} {p : Sections} {s : Store} (w : Stands img p s) {o : Result (ℕ × ℕ) Fault} (a : Reads img (number_read 16) p.batches o) where
   module _ {x : ℕ × ℕ} (y : o ≡ Ok x) where
     -- the front batch, and those after it
     module _ {b : Batch} {bs : List Batch} (e : s.batches ≡ b ∷ bs) where

@@ -6,11 +6,11 @@ ghost use Rattle.deltas.specs.Deltas.{change_meant};
 ghost use Rattle.nodes.specs.Nodes.{body_meant};
 ghost use Rattle.records.specs.Records.{list_bytes, directory_bytes, change_bytes, entry_bytes, body_bytes, node_bytes};
 
-use wire::text::Part;
 use deltas::delta::{DirectoryDelta, EntryDelta, NodeDelta, attr_delta};
 use nodes::node::{Node, NodeKind};
 use wire::number::put_number;
 use wire::put::put_part;
+use wire::text::Part;
 use writers::write::{put_maybe_number, put_maybe_part, put_text_part};
 use writers::write_attr::{put_attr_delta, put_inode_meta};
 

@@ -24,6 +24,7 @@ use Rattle.image.specs.RoundTrip.{read_image}
 use Rattle.survey.specs.Verdict.{number_of}
 use Rattle.survey.specs.declared.batch.InodeLayerStack.{InodeLayerStack}
 use Rattle.survey.specs.declared.refusal.Refusal.{Refusal}
+use Rattle.wire.proofs.Readers.{handed}
 use Rattle.rules.specs.Answers.{Answer, refused, answer, first_of, unless}
 use Rattle.rules.specs.Changes.{map_if}
 use Rattle.rules.specs.FileAttrs.{FileAttr, attributes}
@@ -130,3 +131,5 @@ module _ {img : List ℕ} {a : Answer (Option (List Row))} {room : ℕ} {o : Res
       let es = plan_entries img p in
       rw (← g.answers)
       (record { answers = rw (f.many, f.rows, take-append_seam es (drop (length es) old)); count = f.many ∙ length-map (merge_rows img p.merge) entry_of; rows = f.rows })
+
+pub ruleset fills = (filled-refused, filled_none, filled-all, handed)

@@ -170,6 +170,8 @@ fn plan_listing(
     Ok(None)
 }
 
+// The rows lent, filled with those of the listing.
+#[tactic(auto, using(crate::proofs::Listed::fills))]
 fn list(
     img: &[u8],
     ino: u64,

@@ -1,18 +1,17 @@
 -- Fields merged into a live delta.
 -- Assumes nothing.
-use Rattle.wire.specs.declared.time.Time.{Time}
 use Rattle.wire.specs.declared.text.Part.{Part}
-use Rattle.std.specs.Prelude.{None, Option, Some}
+use Rattle.std.specs.Prelude.{Result, Ok, Err, None, Option, Some}
+use Rattle.std.specs.Result.{result_unwrap_or}
 use mathlib.Core.Path.{◌≡◌, refl, sym, ap, subst, ◌∙◌}
 use mathlib.Core.List.{List, [], ◌++◌, append_assoc}
 use Prim.Native.Nat.{ℕ, suc, ◌+◌}
 use native.Mathlib.Omega.{arith}
 use lib.ListN.{length}
-use Rattle.wire.specs.declared.cursor.Cursor.{Cursor}
-use Rattle.wire.specs.declared.cursor.Cursor.TheVariants.{At}
+use Rattle.wire.specs.declared.fault.Fault.{Fault}
 use Rattle.wire.specs.Combinators.{count}
 use Rattle.wire.specs.Number.{number_bytes, number_read, number_to}
-use Rattle.wire.specs.Reading.{Answers, place_at}
+use Rattle.wire.specs.Reading.{Reads, meant}
 use Rattle.image.specs.declared.name.Under.TheVariants as U
 use Rattle.image.specs.Meaning.{Changes as AttrChanges, Fields, Change, Delta, tombstone, delta, kind_number, changed_kind}
 use Rattle.image.specs.Fits.{FitsRecord}
@@ -26,24 +25,21 @@ use Rattle.rules.specs.Reads.{or_else}
 use Rattle.rules.specs.Changes.{merge_fields, merge_changes}
 use Rattle.change.specs.Sections.{between, Spans}
 use Rattle.meld.specs.Merged.{changes_anew}
-use Rattle.fields.specs.Fields.{or_word, or_time, or_part, attr_over}
+use Rattle.fields.specs.Fields.{attr_over}
+use Rattle.std.specs.Option.{option_or}
 use Rattle.update.specs.Updates.{merged_delta, Onto}
 use Rattle.overlay.specs.declared.record.NewChange.TheVariants as C
 use Rattle.overlay.specs.declared.record.NewRecord.TheVariants as N
-use Rattle.change.proofs.Sections.{span-part, span-front, span-back, span-reads}
+use Rattle.change.proofs.Sections.{span-part, span-front, span-back, span-reads, value-is}
 use Rattle.meld.proofs.Melding.{changes-written}
 
 -- ---- "field by field"
 
-word-or : (a b : Option ℕ) → (or_word a b) ≡ or_else a b
-word-or (Some n) b = refl
-word-or None b = refl
+either-or : {A : Type 0} (a b : Option A) → option_or a b ≡ or_else a b
+either-or (Some x) b = refl
+either-or None b = refl
 
-time-or : (a b : Option Time) → (or_time a b) ≡ or_else a b
-time-or (Some t) b = refl
-time-or None b = refl
-
-part-or : (img given : List ℕ) (a b : Option Part) → count (merge_changes (list_of given U.Change a) (list_of img U.Change b)) ≡ part_bit (or_part a b)
+part-or : (img given : List ℕ) (a b : Option Part) → count (merge_changes (list_of given U.Change a) (list_of img U.Change b)) ≡ part_bit (option_or a b)
 part-or img given (Some p) (Some q) = refl
 part-or img given (Some p) None = refl
 part-or img given None (Some q) = refl
@@ -55,14 +51,14 @@ module _ (img given : List ℕ) (a b : AttrDelta) where
 
   fields-over : fields_with (attr_over a b) both_changes ≡ merge_fields (fields_meant given a) (fields_meant img b)
   fields-over = λ j. record {
-    mode = word-or a.mode b.mode j;
-    owner = word-or a.uid b.uid j;
-    group = word-or a.gid b.gid j;
-    links = word-or a.nlink b.nlink j;
-    atime = time-or a.atime b.atime j;
-    mtime = time-or a.mtime b.mtime j;
-    ctime = time-or a.ctime b.ctime j;
-    created = time-or a.created_at b.created_at j;
+    mode = either-or a.mode b.mode j;
+    owner = either-or a.uid b.uid j;
+    group = either-or a.gid b.gid j;
+    links = either-or a.nlink b.nlink j;
+    atime = either-or a.atime b.atime j;
+    mtime = either-or a.mtime b.mtime j;
+    ctime = either-or a.ctime b.ctime j;
+    created = either-or a.created_at b.created_at j;
     attributes = both_changes;
   }
 
@@ -90,59 +86,78 @@ dead-bytes = refl
 abbrev code_of : Delta → ℕ
 code_of d = suc (kind_number (changed_kind d.change))
 
-module _ {img : List ℕ} {at v : ℕ} (start : Cursor) (n : Answers img (number_read 7) (At at) 0 v start) where
+module _ {img : List ℕ} {at : ℕ} {o : Result (ℕ × ℕ) Fault} (n : Reads img (number_read 7) at o) where
+  -- the code of a live tombstone
+  dead-code : {after : ℕ} → Spans img at (layer_record.write tombstone) after → (after' : ℕ) × (o ≡ Ok (0, after'))
+  dead-code {after} w =
+      (at + length (number_bytes 0), span-reads (number_to 7 refl) (span-front (number_bytes 0) [] (subst (λ (t : List ℕ). Spans img at t after) dead-bytes w)) (omega arith) n)
+
   module _ (after : ℕ) (d : Delta) (w : Spans img at (layer_record.write (delta d)) after) where
     delta-span : Spans img at (number_bytes (code_of d) ++ (fields.write d.fields ++ changed d.change)) after
     delta-span = subst (λ (t : List ℕ). Spans img at t after) (delta-bytes d.fields d.change) w
 
-    code_read : (v ≡ code_of d) × (start ≡ At (at + length (number_bytes (code_of d))))
+    code_read : o ≡ Ok (code_of d, at + length (number_bytes (code_of d)))
     code_read =
         span-reads (number_to 7 refl) (span-front (number_bytes (code_of d)) (fields.write d.fields ++ changed d.change) delta-span)
-        (omega (arith, kind-small (changed_kind d.change))) start n.reads
+        (omega (arith, kind-small (changed_kind d.change))) n
 
     after-code : Spans img (at + length (number_bytes (code_of d))) (fields.write d.fields ++ changed d.change) after
     after-code = span-back (number_bytes (code_of d)) (fields.write d.fields ++ changed d.change) delta-span
 
-  -- "does nothing on a live tombstone"
-  pub onto-dead : {a : AttrDelta} → v ≡ 0 → Onto img at a N.Tombstone
-  onto-dead e = record { stays = λ after w. refl; merges = λ after d f w. absurd (omega (arith, e, (code_read after d w).0)) }
+  module _ {x : ℕ × ℕ} (z : x ≡ result_unwrap_or o (0, 0)) where
+    code-is : (after : ℕ) (d : Delta) → Spans img at (layer_record.write (delta d)) after → x ≡ (code_of d, at + length (number_bytes (code_of d)))
+    code-is after d w = value-is (0, 0) (code_read after d w) z
 
-  module _ {b : AttrDelta} (next : Cursor) (r : ReadsAttr img start b next) where
-    module _ (after : ℕ) (d : Delta) (f : FitsRecord (delta d)) (w : Spans img at (layer_record.write (delta d)) after) where
-      fields_read : (fields_meant img b ≡ d.fields) × (next ≡ At (at + length (number_bytes (code_of d)) + length (fields.write d.fields)))
-      unfolding fields
-      fields_read =
-          span-reads fields (span-front (fields.write d.fields) (changed d.change) (after-code after d w)) f.fields next (rw (code_read after d w).1 at r.reads)
+    -- "does nothing on a live tombstone"
+    pub onto-dead : {a : AttrDelta} → x.0 ≡ 0 → Onto img at a N.Tombstone
+    onto-dead e = record { stays = λ after w. refl; merges = λ after d f w. let c : x.0 ≡ code_of d = ap (λ (x : ℕ × ℕ). x.0) (code-is after d w) in absurd (omega (arith, e, c)) }
 
-      change-span : between img (place_at next) after ≡ changed d.change
-      change-span = rw (ap place_at fields_read.1) (span-part (span-back (fields.write d.fields) (changed d.change) (after-code after d w)))
+    module _ {u : Result (AttrDelta × ℕ) Fault} (r : ReadsAttr img x.1 u) where
+      module _ (after : ℕ) (d : Delta) (f : FitsRecord (delta d)) (w : Spans img at (layer_record.write (delta d)) after) where
+        fields_read : meant (fields_meant img) u ≡ Ok (d.fields, at + length (number_bytes (code_of d)) + length (fields.write d.fields))
+        unfolding fields
+        fields_read =
+            let c : x.1 ≡ at + length (number_bytes (code_of d)) = ap (λ (x : ℕ × ℕ). x.1) (code-is after d w) in
+            span-reads fields (span-front (fields.write d.fields) (changed d.change) (after-code after d w)) f.fields (rw c at r.reads)
 
-      changes-listed : ListedIf img U.Change b.xattrs (at + length (number_bytes (code_of d)) + length (fields.write d.fields))
-      changes-listed = rw fields_read.1 at r.listed
+      -- the fields cannot be read
+      pub onto-nowhere : {a : AttrDelta} {f : Fault} → (x.0 ≡ 0 → ⊥) → u ≡ Err f → Onto img at a N.Tombstone
+      onto-nowhere e d = record {
+        stays = λ after w. refl;
+        merges = λ after b f w. absurd (let c = fields_read after b f w in let z : ◌≡◌ {A = ℕ} 0 1 = cc in omega arith);
+      }
 
-      -- the delta with the fields given over its own
-      merged-bytes : (a : AttrDelta) (given : List ℕ) (end : ℕ) → ListedIf given U.Change a.xattrs end
-          → number_bytes v ++ (attr_bytes (attr_over a b) ++ (changes_anew img given a.xattrs b.xattrs ++ between img (place_at next) after)) ≡ layer_record.write (merged_delta given a d)
-      merged-bytes a given end h =
-          let c = (code_read after d w).0 in
-          let m = changes_anew img given a.xattrs b.xattrs in
-          (λ j. number_bytes (c j) ++ (attr_bytes (attr_over a b) ++ (m ++ change-span j)))
-          ∙ ap (λ (l : List ℕ). number_bytes (code_of d) ++ l) (sym (append_assoc (attr_bytes (attr_over a b)) m (changed d.change)))
-          ∙ ap (λ (t : List ℕ). number_bytes (code_of d) ++ (t ++ changed d.change))
-          (fields-over-bytes img given a b end (at + length (number_bytes (code_of d)) + length (fields.write d.fields)) h changes-listed
-          ∙ ap (λ (x : Fields). fields.write (merge_fields (fields_meant given a) x)) fields_read.0)
-          ∙ sym (delta-bytes (merge_fields (fields_meant given a) d.fields) d.change)
+      module _ {b : AttrDelta} {end : ℕ} (g : u ≡ Ok (b, end)) where
+        module _ (after : ℕ) (d : Delta) (f : FitsRecord (delta d)) (w : Spans img at (layer_record.write (delta d)) after) where
+          fields-are : (fields_meant img b ≡ d.fields) × (end ≡ at + length (number_bytes (code_of d)) + length (fields.write d.fields))
+          fields-are =
+              let c = rw g at (fields_read after d f w) in
+              let back : Result (Fields × ℕ) Fault → Fields × ℕ = λ o. result_unwrap_or o (d.fields, 0) in
+              (ap (λ o. (back o).0) c, ap (λ o. (back o).1) c)
 
-    -- "Update merges into a live delta, field by field and attribute by attribute"
-    pub onto-delta : {a o : AttrDelta} {place : ℕ} → (v ≡ 0 → ⊥) → o ≡ attr_over a b → place ≡ place_at next
-        → Onto img at a (N.Updated (record { code = v; attr_delta = o; new = a.xattrs; old = b.xattrs; change = C.Kept place }))
-    onto-delta {a} {o} {place} z e q = record {
-      stays = λ after w.
-          let front = span-front (number_bytes 0) [] (subst (λ (t : List ℕ). Spans img at t after) dead-bytes w) in
-          absurd (z (span-reads (number_to 7 refl) front (omega arith) start n.reads).0);
-      merges = λ after d f w. record {
-        new = record { code = v; attr_delta = o; new = a.xattrs; old = b.xattrs; change = C.Kept place };
-        is = refl;
-        writes = λ given end h. rw (e, q) (merged-bytes after d f w a given end h);
-      };
-    }
+          change-span : between img end after ≡ changed d.change
+          change-span = rw (fields-are.1) (span-part (span-back (fields.write d.fields) (changed d.change) (after-code after d w)))
+
+          -- the delta with the fields given over its own
+          merged-bytes : (a : AttrDelta) (given : List ℕ) (last : ℕ) → ListedIf given U.Change a.xattrs last
+              → number_bytes x.0 ++ (attr_bytes (attr_over a b) ++ (changes_anew img given a.xattrs b.xattrs ++ between img end after)) ≡ layer_record.write (merged_delta given a d)
+          merged-bytes a given last h =
+              let c : x.0 ≡ code_of d = ap (λ (x : ℕ × ℕ). x.0) (code-is after d w) in
+              let m = changes_anew img given a.xattrs b.xattrs in
+              (λ j. number_bytes (c j) ++ (attr_bytes (attr_over a b) ++ (m ++ change-span j)))
+              ∙ ap (λ (l : List ℕ). number_bytes (code_of d) ++ l) (sym (append_assoc (attr_bytes (attr_over a b)) m (changed d.change)))
+              ∙ ap (λ (t : List ℕ). number_bytes (code_of d) ++ (t ++ changed d.change))
+              (fields-over-bytes img given a b last end h (rw g at r).listed ∙ ap (λ (x : Fields). fields.write (merge_fields (fields_meant given a) x)) fields-are.0)
+              ∙ sym (delta-bytes (merge_fields (fields_meant given a) d.fields) d.change)
+
+        -- "Update merges into a live delta, field by field and attribute by attribute"
+        pub onto-delta : {a m : AttrDelta} → (x.0 ≡ 0 → ⊥) → m ≡ attr_over a b
+            → Onto img at a (N.Updated (record { code = x.0; attr_delta = m; new = a.xattrs; old = b.xattrs; change = C.Kept end }))
+        onto-delta {a} {m} e q = record {
+          stays = λ after w. let c = value-is (0, 0) (dead-code w).1 z in absurd (e (ap (λ (x : ℕ × ℕ). x.0) c));
+          merges = λ after d f w. record {
+            new = record { code = x.0; attr_delta = m; new = a.xattrs; old = b.xattrs; change = C.Kept end };
+            is = refl;
+            writes = λ given last h. rw q (merged-bytes after d f w a given last h);
+          };
+        }

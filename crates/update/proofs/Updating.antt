@@ -1,16 +1,12 @@
 -- Update of one inode's attributes.
 -- Assumes nothing.
 use Rattle.wire.specs.declared.text.Part.{Part}
-use Rattle.std.specs.Prelude.{None, Option, Some}
+use Rattle.std.specs.Prelude.{Result, Ok, Err, None, Option, Some}
 use mathlib.Core.Path.{◌≡◌, refl, sym, ap, ◌∙◌}
-use mathlib.Core.Bool.{Bool, true, false, not}
 use mathlib.Core.List.{List, [], ◌∷◌, ◌++◌, append_assoc}
 use Prim.Native.Nat.{ℕ, suc}
 use lib.ListN.{length, drop}
-use lib.Dec.{eqb}
-use borrow.Author.Tests.{eqb-true, eqb-false}
-use Rattle.wire.specs.declared.cursor.Cursor.{Cursor}
-use Rattle.wire.specs.declared.cursor.Cursor.TheVariants.{At, Stop}
+use Rattle.wire.specs.declared.fault.Fault.{Fault}
 use Rattle.wire.specs.Orders.{by_number}
 use Rattle.wire.specs.Maps.{empty, get, put}
 use Rattle.wire.specs.Parse.{got}
@@ -48,16 +44,16 @@ use Rattle.change.specs.Sections.{Spans, Stands}
 use Rattle.change.specs.Cuts.{row_here, under_first, StandsAt, CutsRecords}
 use Rattle.meld.specs.Merged.{changes_anew}
 use Rattle.overlay.specs.NewRecords.{bare_bytes, updated_bytes, record_row, one_image, replaced_of, unchanged_of}
-use Rattle.update.specs.Updates.{left_over, new_delta, merged_delta, Onto, Updates}
-use Rattle.change.specs.declared.answer.ChangeAnswer.{ChangeAnswer}
-use Rattle.change.specs.declared.answer.ChangeAnswer.TheVariants as R
+use Rattle.update.specs.Updates.{WholeFields, new_delta, merged_delta, Onto, Updates}
+use Rattle.survey.specs.declared.refusal.Refusal.{Refusal}
+use Rattle.survey.specs.declared.refusal.Refusal.TheVariants.{BadArgument}
 use Rattle.change.specs.declared.section.Sections.{Sections}
 use Rattle.change.specs.declared.cut.Cut.{Cut}
 use Rattle.overlay.specs.declared.record.Updated.{Updated}
 use Rattle.overlay.specs.declared.record.NewRecord.{NewRecord}
 use Rattle.overlay.specs.declared.record.NewRecord.TheVariants as N
 use Rattle.overlay.specs.declared.write.NewLive.{NewLive}
-use Rattle.change.proofs.Finishing.{not-false, changes-refused, changes-made}
+use Rattle.change.proofs.Finishing.{changes-refused, changes-made}
 use Rattle.change.proofs.Cutting.{get-here}
 use Rattle.overlay.proofs.Living.{read_whole, read-longer, tombstone-bytes, is_cut, replaced-image, unchanged-image}
 use Rattle.update.proofs.Onto.{changed, delta-bytes}
@@ -191,34 +187,27 @@ module _ {img : List ℕ} {p : Sections} {stk : InodeLayerStack} {i : ℕ} {a : 
 
 -- ---- the call
 
-module _ {given : List ℕ} {a : AttrDelta} where
-  given-bad : (next : Cursor) → ReadsAttr given (At 0) a next → left_over next (length given) ≡ true → given_fields given ≡ None
+module _ {given : List ℕ} {o : Result (AttrDelta × ℕ) Fault} (r : ReadsAttr given 0 o) where
+  pub fields-broken : {f : Fault} → o ≡ Err f → WholeFields given None
   unfolding decode
-  given-bad (At q) r h = read-longer fields r.reads (λ e. go (eqb q (length given)) refl e h)
-    where
-      go : (b : Bool) → eqb q (length given) ≡ b → q ≡ length given → not b ≡ true → ⊥
-      go true d e h = not-false (sym h)
-      go false d e h = eqb-false q (length given) d e
-  given-bad (Stop f) r h = rw r.reads.same
+  fields-broken d = rw (rw d at r).reads.same
 
-  given-good : (next : Cursor) → ReadsAttr given (At 0) a next → left_over next (length given) ≡ false
-      → (given_fields given ≡ Some (fields_meant given a)) × ((end : ℕ) × ListedIf given U.Change a.xattrs end)
-  given-good (At q) r h = (read_whole fields r.reads (go (eqb q (length given)) refl h), (q, r.listed))
-    where
-      go : (b : Bool) → eqb q (length given) ≡ b → not b ≡ false → q ≡ length given
-      go true d h = eqb-true q (length given) d
-      go false d h = absurd (not-false h)
-  given-good (Stop f) r h = absurd (not-false h)
+  module _ {a : AttrDelta} {q : ℕ} (d : o ≡ Ok (a, q)) where
+    pub fields-longer : (q ≡ length given → ⊥) → WholeFields given None
+    fields-longer = read-longer fields (rw d at r).reads
 
-module _ {img : List ℕ} {p : Sections} {s : Store} {given : List ℕ} {a : AttrDelta} {next : Cursor} {old : List ℕ} (w : Stands img p s) (r : ReadsAttr given (At 0) a next) where
+    pub fields-whole : q ≡ length given → WholeFields given (Some a)
+    fields-whole h = (read_whole fields (rw d at r).reads h, (q, (rw d at r).listed))
+
+module _ {img : List ℕ} {p : Sections} {s : Store} (given : List ℕ) {old : List ℕ} {o : Option AttrDelta} (w : Stands img p s) (r : WholeFields given o) where
   -- "4 if the delta given breaks the layout, has bytes left over"
-  pub update-refused : (i : ℕ) → left_over next (length given) ≡ true → Changes (update_attr_delta usual img i given (length old)) old (R.Refused 4) old
-  update-refused i h = changes-refused (Call.update i (given_fields given)) w (rw (given-bad next r h))
+  pub update-refused : (i : ℕ) → o ≡ None → Changes (update_attr_delta usual img i given (length old)) old (Err BadArgument) old
+  update-refused i e = changes-refused (Call.update i (given_fields given)) w (rw (rw e at r))
 
-  pub update-made : {i : ℕ} {stk : InodeLayerStack} {n : NewLive} {new : List ℕ} {answer : ChangeAnswer} → left_over next (length given) ≡ false
+  pub update-made : {i : ℕ} {stk : InodeLayerStack} {a : AttrDelta} {n : NewLive} {new : List ℕ} {answer : Result ℕ Refusal} → o ≡ Some a
       → StackOf img i stk → Updates img p stk i a n
       → Changes (if_fits (one_image img given given p n) (length old)) old answer new → Changes (update_attr_delta usual img i given (length old)) old answer new
   unfolding result
-  update-made {i} h k u z =
-      let g = given-good next r h in
+  update-made {i} e k u z =
+      let g = rw e at r in
       changes-made (Call.update i (given_fields given)) w (rw g.0) (u.writes s w k given g.1.0 g.1.1 ∙ rw g.0) z

@@ -1,8 +1,6 @@
 -- Update. Document 01: "Update merges into a live delta, field by field and attribute by attribute; does nothing on a live tombstone; with no
 -- live record makes a delta of the type below, device 0, or does nothing if none exists."
-use Rattle.std.specs.Prelude.{◌≡◌, Bool, true, not, List, ℕ, eqb, None}
-use Rattle.wire.specs.declared.cursor.Cursor.{Cursor}
-use Rattle.wire.specs.declared.cursor.Cursor.TheVariants as C
+use Rattle.std.specs.Prelude.{◌≡◌, List, ℕ, Option, Some, None}
 use Rattle.image.specs.Meaning.{Delta, Record, Store, tombstone, delta}
 use Rattle.image.specs.Fits.{FitsRecord}
 use Rattle.image.specs.declared.name.Under.TheVariants as U
@@ -15,6 +13,7 @@ use Rattle.nodes.specs.declared.attr.AttrDelta.{AttrDelta}
 use Rattle.stack.specs.Stacks.{StackOf}
 use Rattle.rules.specs.Changes.{merge_fields, updated}
 use Rattle.rules.specs.Queue.{on_live, type_below}
+use Rattle.rules.specs.ChangeCalls.{given_fields}
 use Rattle.change.specs.Sections.{Spans, Stands}
 use Rattle.overlay.specs.NewRecords.{updated_bytes, one_image}
 use Rattle.change.specs.declared.section.Sections.{Sections}
@@ -24,10 +23,10 @@ use Rattle.overlay.specs.declared.record.NewRecord.{NewRecord}
 use Rattle.overlay.specs.declared.record.NewRecord.TheVariants as N
 use Rattle.overlay.specs.declared.write.NewLive.{NewLive}
 
--- "4 if the delta given breaks the layout, has bytes left over"
-abbrev pub left_over : Cursor → ℕ → Bool
-left_over (C.At q) n = not (eqb q n)
-left_over (C.Stop f) n = true
+-- "4 if the delta given breaks the layout, has bytes left over": the fields that these bytes are, or that they are not
+abbrev pub WholeFields : List ℕ → Option AttrDelta → Type 0
+WholeFields given (Some a) = (given_fields given ≡ Some (fields_meant given a)) × ((end : ℕ) × ListedIf given U.Change a.xattrs end)
+WholeFields given None = given_fields given ≡ None
 
 abbrev pub new_delta : ℕ → AttrDelta → Updated
 new_delta code a = record { code = code; attr_delta = a; new = a.xattrs; old = None; change = K.Bare }

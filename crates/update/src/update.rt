@@ -6,11 +6,10 @@ ghost use Rattle.stack.specs.Stacks.{Stacked};
 ghost use Rattle.rules.specs.Initial.{usual};
 ghost use Rattle.rules.specs.ChangeCalls.{update_attr_delta};
 ghost use Rattle.change.specs.Changed.{Changes};
-ghost use Rattle.update.specs.Updates.{left_over, Onto, Updates, new_delta};
+ghost use Rattle.update.specs.Updates.{WholeFields, Onto, Updates, new_delta};
 
 use attrs::attr::type_row;
 use attrs::node::FileType;
-use change::answer::ChangeAnswer;
 use change::cut::cut_records;
 use change::section::{Sections, open_inode};
 use fields::fields::attr_over;
@@ -19,37 +18,38 @@ use overlay::record::{NewChange, NewRecord, Updated};
 use overlay::write::{NewLive, replaced, unchanged, write_record};
 use stack::file_type::type_in;
 use survey::batch::InodeLayerStack;
-use wire::cursor::{Cursor, place_at};
+use survey::refusal::Refusal;
 use wire::number::read_number;
 
 // Merges the fields given, a mask and what it says is there, into the live delta.
-pub fn update_attr_delta(img: &[u8], ino: u64, delta: &[u8], target: &mut [u8]) -> ChangeAnswer
+pub fn update_attr_delta(
+    img: &[u8],
+    ino: u64,
+    delta: &[u8],
+    target: &mut [u8],
+) -> Result<usize, Refusal>
     ensures { Changes (update_attr_delta usual img.now ino delta.now (length target.old)) target.old result target.new }
 {
-    let opened = open_inode(img, ino);
-    if opened.refusal != 0 {
-        return ChangeAnswer::Refused(opened.refusal);
-    }
-    let read = read_attr_delta(delta, Cursor::At(0));
-    let next = read.next;
-    let fields = read.attr_delta;
-    if unfinished(delta, next) {
-        return ChangeAnswer::Refused(4);
-    }
-    let sections = opened.sections;
-    let stack = opened.stack;
+    let (sections, stack) = open_inode(img, ino)?;
+    let Some(fields) = whole_fields(delta) else {
+        return Err(Refusal::BadArgument);
+    };
     let new = with_fields(img, sections, stack, ino, fields);
     write_record(img, delta, delta, sections, new, target)
 }
 
-// Whether a reading stopped, or left bytes over.
-fn unfinished(bytes: &[u8], next: Cursor) -> bool
-    ensures { result ≡ left_over next (length bytes.now) }
+// The fields that these bytes are, if no bytes are left over.
+fn whole_fields(bytes: &[u8]) -> Option<AttrDelta>
+    ensures { WholeFields bytes.now result }
 {
-    match next {
-        Cursor::At(end) => end != bytes.len(),
-        Cursor::Stop(_) => true,
+    let Ok((fields, end)) = read_attr_delta(bytes, 0) else {
+        return None;
+    };
+    let left_over = end != bytes.len();
+    if left_over {
+        return None;
     }
+    Some(fields)
 }
 
 // The image with the fields merged into the live delta; with no live record, with a delta of the type below.
@@ -64,22 +64,15 @@ fn with_fields(
     ensures { Updates img.now sections stack ino fields result }
 {
     let cut = cut_records(img, sections.live, ino);
-    let place = cut.place;
-    match place {
-        Some(at) => {
-            let new = onto_live(img, at, fields);
-            replaced(cut, ino, new)
-        }
-        None => {
-            let below = type_in(img, stack);
-            match below {
-                Some(kind) => {
-                    let new = new_delta(type_code(kind), fields);
-                    replaced(cut, ino, NewRecord::Updated(new))
-                }
-                None => unchanged(cut, ino),
+    match cut.place {
+        Some(at) => replaced(cut, ino, onto_live(img, at, fields)),
+        None => match type_in(img, stack) {
+            Some(kind) => {
+                let new = new_delta(type_code(kind), fields);
+                replaced(cut, ino, NewRecord::Updated(new))
             }
-        }
+            None => unchanged(cut, ino),
+        },
     }
 }
 
@@ -87,22 +80,20 @@ fn with_fields(
 fn onto_live(img: &[u8], at: usize, fields: AttrDelta) -> NewRecord
     ensures { Onto img.now at fields result }
 {
-    let code = read_number(img, Cursor::At(at), 7);
-    if code.value == 0 {
+    let (code, start) = read_number(img, at, 7).unwrap_or((0, 0));
+    let is_tombstone = code == 0;
+    if is_tombstone {
         return NewRecord::Tombstone;
     }
-    let start = code.next;
-    let read = read_attr_delta(img, start);
-    let next = read.next;
-    let below = read.attr_delta;
-    let new = fields.xattrs;
-    let old = below.xattrs;
+    let Ok((below, end)) = read_attr_delta(img, start) else {
+        return NewRecord::Tombstone;
+    };
     NewRecord::Updated(Updated {
-        code: code.value,
+        code,
         attr_delta: attr_over(fields, below),
-        new,
-        old,
-        change: NewChange::Kept(place_at(next)),
+        new: fields.xattrs,
+        old: below.xattrs,
+        change: NewChange::Kept(end),
     })
 }
 
@@ -110,11 +101,10 @@ fn onto_live(img: &[u8], at: usize, fields: AttrDelta) -> NewRecord
 fn new_delta(code: u64, fields: AttrDelta) -> Updated
     ensures { result ≡ new_delta code fields }
 {
-    let new = fields.xattrs;
     Updated {
         code,
         attr_delta: fields,
-        new,
+        new: fields.xattrs,
         old: None,
         change: NewChange::Bare,
     }

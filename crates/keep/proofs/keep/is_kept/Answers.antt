@@ -1,9 +1,9 @@
-use Rattle.keep.proofs.Keeping.{keeps_entry, keeps-name, keeps-value, keeps-change}
+use Rattle.keep.proofs.Keeping.{keeps-inode, keeps-name, keeps-value, keeps-change}
 use Rattle.keep.proofs.keep.is_kept.Goals as goal
 
 -- src/keep.rt:89:1
 pub returns-in-Inode : goal.returns-in-Inode
-returns-in-Inode c = search keeps_entry
+returns-in-Inode c = search keeps-inode
 
 -- src/keep.rt:89:1
 pub returns-in-Nothing : goal.returns-in-Nothing
