@@ -1,5 +1,6 @@
 -- The target of a snapshot that is not refused begins with the snapshot's base.
 -- Assumes nothing.
+use Rattle.std.specs.Prelude.{Result, Ok, Err}
 use mathlib.Core.Path.{◌≡◌, refl, sym, ap, ◌∙◌}
 use mathlib.Core.Bool.{Bool, true, false, ◌&&◌, cond}
 use mathlib.Core.List.{List, ◌++◌, append_assoc}
@@ -25,14 +26,12 @@ use Rattle.rules.specs.ChangeCalls.{new_image, written, snapshot_all}
 use Rattle.rules.proofs.ResultImage.{snapshot-fits, usual-fits}
 use Rattle.change.specs.Sections.{Spans}
 use Rattle.change.specs.Changed.{answered, Changes}
-use Rattle.change.specs.declared.answer.ChangeAnswer.{ChangeAnswer}
-use Rattle.change.specs.declared.answer.ChangeAnswer.TheVariants as A
+use Rattle.survey.specs.Verdict.{number_of, numbered}
+use Rattle.survey.specs.declared.refusal.Refusal.{Refusal}
 use Rattle.change.proofs.Sections.{store_bytes}
 use Rattle.lines.specs.Lines.{snapshot_of}
 use Rattle.lines.specs.Rows.{FirstRows, OpensTo, OpensListing}
 use Rattle.lines.specs.declared.rows.Rows.{Rows}
-use Rattle.lines.specs.declared.rows.Opened.{Opened}
-use Rattle.lines.specs.declared.rows.Opened.TheVariants as O
 use Rattle.wire.proofs.Decoding.{encode-decode}
 use Rattle.image.proofs.OneForm.{store-one}
 
@@ -93,21 +92,21 @@ fits-base : {s : Store} → FitsStore s → base.Fits s.base
 unfolding node
 fits-base h = h.base
 
-module _ {img old new : List ℕ} {answer' : ChangeAnswer} (h : Changes (snapshot_all usual img (length old)) old answer' new) where
-  pub opened-refused : {n : ℕ} {r : Opened} → answer' ≡ A.Refused n → r ≡ O.Refused n → OpensListing img old r new
-  opened-refused {n} {r} a e = record { opens = go (snapshot_of (length old) img) (sym a ∙ h.answers ∙ ap answered (snapshot-bytes (length old) img)); leaves = h.leaves }
+module _ {img old new : List ℕ} {made : Result ℕ Refusal} (h : Changes (snapshot_all usual img (length old)) old made new) {r : Result Rows Refusal} where
+  pub opened-refused : {e : Refusal} → made ≡ Err e → r ≡ Err e → OpensListing img old r new
+  opened-refused {e} a d = record { opens = go (snapshot_of (length old) img) (sym (ap numbered a) ∙ h.answers ∙ ap answered (snapshot-bytes (length old) img)); leaves = h.leaves }
     where
-      go : (o : Answer Store) → A.Refused n ≡ answered (map_answer write_image o) → OpensTo o r new
-      go (refused m) d = e ∙ cc
-      go (answer s) d = absurd (let z : ◌≡◌ {A = ℕ} 0 1 = cc in omega arith)
+      go : (o : Answer Store) → Err (number_of e) ≡ answered (map_answer write_image o) → OpensTo o r new
+      go (refused m) x = ap numbered d ∙ let z : number_of e ≡ m = cc in ap Err z
+      go (answer s) x = absurd (let z : ◌≡◌ {A = ℕ} 0 1 = cc in omega arith)
 
-  pub opened-lines : {n : ℕ} {rows : Rows} {r : Opened} → answer' ≡ A.Length n → FirstRows new rows → r ≡ O.Lines rows → OpensListing img old r new
-  opened-lines {n} {rows} {r} a f e =
+  pub opened-lines : {n : ℕ} {rows : Rows} → made ≡ Ok n → FirstRows new rows → r ≡ Ok rows → OpensListing img old r new
+  opened-lines {n} {rows} a f e =
       record { opens = go (snapshot_of (length old) img) refl; leaves = h.leaves }
     where
       go : (o : Answer Store) → snapshot_of (length old) img ≡ o → OpensTo o r new
       go (refused m) d =
-          let z = sym a ∙ h.answers ∙ ap answered (snapshot-bytes (length old) img ∙ ap (map_answer write_image) d) in
+          let z = sym (ap numbered a) ∙ h.answers ∙ ap answered (snapshot-bytes (length old) img ∙ ap (map_answer write_image) d) in
           absurd (let y : ◌≡◌ {A = ℕ} 0 1 = cc in omega arith)
       go (answer s) d =
           let w : new ≡ write_image s ++ drop (length (write_image s)) old =

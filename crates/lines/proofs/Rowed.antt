@@ -1,18 +1,20 @@
 -- The rows of a base in its image: the first place, and one row after the other.
 -- Assumes nothing.
-use Rattle.std.specs.Prelude.{None, Some}
+use Rattle.std.specs.Prelude.{Result, Ok, Err, None, Some}
+use Rattle.std.specs.Result.{result_unwrap_or}
 use mathlib.Core.Path.{◌≡◌, refl, ap, ◌∙◌}
-use mathlib.Core.List.{List, ◌∷◌, ◌++◌, append_assoc}
-use Prim.Native.Nat.{ℕ, suc, ◌-◌}
+use mathlib.Core.List.{List, ◌∷◌, ◌++◌}
+use Prim.Native.Nat.{ℕ, suc, ◌+◌, ◌-◌}
 use native.Mathlib.Omega.{arith}
 use lib.ListN.{length}
-use Rattle.wire.specs.declared.cursor.Cursor.{Cursor}
-use Rattle.wire.specs.declared.cursor.Cursor.TheVariants.{At}
+use Rattle.wire.specs.declared.fault.Fault.{Fault}
+use Rattle.wire.specs.Combinators.{◌then◌}
+use Rattle.wire.proofs.Readers.{read-then, read-stop, read-end}
 use Rattle.wire.specs.Number.{edge, number_bytes, number_read, number_to}
 use Rattle.wire.specs.Orders.{by_number}
 use Rattle.wire.specs.Lists.{last_count}
 use Rattle.wire.specs.Put.{Put}
-use Rattle.wire.specs.Reading.{Answers, place_at}
+use Rattle.wire.specs.Reading.{Reads, meant}
 use Rattle.image.specs.Meaning as M
 use Rattle.image.specs.Meaning.{Base}
 use Rattle.image.specs.FieldLayout.{inode}
@@ -26,11 +28,11 @@ use Rattle.attrs.specs.Meant.{attr_meant}
 use Rattle.attrs.specs.Attrs.{LinkIn}
 use Rattle.attrs.specs.declared.node.FileAttr.{FileAttr}
 use Rattle.change.specs.Sections.{Spans}
-use Rattle.change.proofs.Sections.{span-front, span-back, span-reads}
+use Rattle.change.proofs.Sections.{span-front, span-back, span-reads, value-is}
 use Rattle.lines.specs.Lines.{line, line_if, line_of}
 use Rattle.change.specs.Cuts.{rows_bytes}
 use Rattle.change.proofs.Cutting.{chain-rows}
-use Rattle.lines.specs.Rows.{Listed, FirstRows, NextLine}
+use Rattle.lines.specs.Rows.{Listed, FirstRows, NextLine, row_meant, ReadsRow}
 use Rattle.lines.specs.declared.rows.Rows.{Rows}
 use Rattle.lines.specs.declared.rows.Line.{Line}
 
@@ -39,14 +41,15 @@ use Rattle.lines.specs.declared.rows.Line.{Line}
 pub base-bytes : (b : Base) → base.write b ≡ number_bytes (length b.rows) ++ rows_bytes inode node b.rows
 base-bytes b = ap (λ (t : List ℕ). number_bytes (length b.rows) ++ t) (chain-rows by_number inode node None b.rows)
 
-pub rows-first : {img : List ℕ} {r : Rows} {next : Cursor} → Answers img (number_read last_count) (At 0) 0 r.left next → r.at ≡ place_at next → FirstRows img r
-rows-first {img} {r} {next} a e = λ b end f w.
+pub rows-first : {img : List ℕ} {o : Result (ℕ × ℕ) Fault} {x : ℕ × ℕ} → Reads img (number_read last_count) 0 o → x ≡ result_unwrap_or o (0, 0) → FirstRows img (record { at = x.1; left = x.0 })
+rows-first {img} {o} {x} a z = λ b end f w.
     let v = rw (base-bytes b) at w in
-    let g = span-reads (number_to last_count refl) (span-front (number_bytes (length b.rows)) (rows_bytes inode node b.rows) v) (omega (arith, f.count)) next a.reads in
+    let g = value-is (0, 0) (span-reads (number_to last_count refl) (span-front (number_bytes (length b.rows)) (rows_bytes inode node b.rows) v) (omega (arith, f.count)) a) z in
+    let at : x.1 ≡ 0 + length (number_bytes (length b.rows)) = ap (λ (x : ℕ × ℕ). x.1) g in
     record {
       end = end;
-      spans = rw (e, g.1) (span-back (number_bytes (length b.rows)) (rows_bytes inode node b.rows) v);
-      count = g.0;
+      spans = rw at (span-back (number_bytes (length b.rows)) (rows_bytes inode node b.rows) v);
+      count = ap (λ (x : ℕ × ℕ). x.0) g;
       fits = f.each;
     }
 
@@ -61,46 +64,63 @@ kind-in img (K.CharDevice r) end h = tt
 kind-in img (K.BlockDevice r) end h = tt
 kind-in img K.Socket end h = tt
 
--- what is read of the first of the rows
-pub record Taken (img : List ℕ) (e : ℕ × M.Node) (l : List (ℕ × M.Node)) (ino : ℕ) (n : Node) (next : Cursor) : Type 0 where
-  pub number : ino ≡ e.0
-  pub meant : node_meant img n ≡ e.1
-  pub link : LinkIn img n.kind
-  pub end : ℕ
-  pub spans : Spans img (place_at next) (rows_bytes inode node l) end
+module _ {img : List ℕ} {at : ℕ} {o : Result (ℕ × ℕ) Fault} (h : Reads img (number_read edge) at o) where
+  pub row-unnumbered : {f : Fault} {r : Result ((ℕ × Node) × ℕ) Fault} → o ≡ Err f → r ≡ Err f → ReadsRow img at r
+  row-unnumbered d e = rw e (record { reads = read-stop _ (rw d at h); link = tt })
 
-row-taken : {img : List ℕ} {r : Rows} {e : ℕ × M.Node} {l : List (ℕ × M.Node)} {i : ℕ} {n : Node} {start next : Cursor} → Listed img r (e ∷ l)
-    → Answers img (number_read edge) (At r.at) 0 i start → ReadsNode img start n next → Taken img e l i n next
-unfolding rows_bytes
-row-taken {img} {r} {e} {l} {i} {n} {start} {next} h a d =
-    let xs = inode.write e.0 in
-    let ys = node.write e.1 in
-    let w : Spans img r.at (xs ++ (ys ++ rows_bytes inode node l)) h.end = rw (append_assoc xs ys (rows_bytes inode node l)) at h.spans in
-    let f = span-reads inode (span-front xs (ys ++ rows_bytes inode node l) w) h.fits.0.0 start a.reads in
-    let v = span-back xs (ys ++ rows_bytes inode node l) w in
-    let g = span-reads node (span-front ys (rows_bytes inode node l) v) h.fits.0.1 next (rw f.1 at d.reads) in
-    record {
-      number = f.0;
-      meant = g.0;
-      link = kind-in img n.kind _ (rw g.1 at d.entries);
-      end = h.end;
-      spans = rw g.1 (span-back ys (rows_bytes inode node l) v);
-    }
+  module _ {i start : ℕ} (d : o ≡ Ok (i, start)) {u : Result (Node × ℕ) Fault} (k : ReadsNode img start u) where
+    pub row-stopped : {f : Fault} {r : Result ((ℕ × Node) × ℕ) Fault} → u ≡ Err f → r ≡ Err f → ReadsRow img at r
+    row-stopped c e = rw e (record { reads = read-then _ (rw d at h) (read-stop _ (rw c at k).reads); link = tt })
 
--- its attributes
-attr-taken : {img : List ℕ} {e : ℕ × M.Node} {l : List (ℕ × M.Node)} {i : ℕ} {n : Node} {next : Cursor} (a : FileAttr) → Taken img e l i n next
-    → ((m : List ℕ) → LinkIn m n.kind → Some (attr_meant a) ≡ base_attr i (Some (node_meant m n))) → line (attr_meant a) ≡ line_of e
-attr-taken {img} {e} {n = n} a t h =
-    ap line_if (h img t.link) ∙ ap (λ (i : ℕ). line_of (i, node_meant img n)) t.number ∙ ap (λ (m : M.Node). line_of (e.0, m)) t.meant
+    pub row-read : {n : Node} {next : ℕ} → u ≡ Ok (n, next) → ReadsRow img at (Ok ((i, n), next))
+    row-read {n} c =
+        let g = rw c at k in
+        record { reads = read-then _ (rw d at h) (read-then _ g.reads (read-end g.reads.within)); link = kind-in img n.kind _ g.entries }
 
-pub next-line : {img old new : List ℕ} {rows : Rows} {i : ℕ} {n : Node} {start next : Cursor} {r : Line} (a : FileAttr)
-    → Answers img (number_read edge) (At rows.at) 0 i start → ReadsNode img start n next
-    → ((m : List ℕ) → LinkIn m n.kind → Some (attr_meant a) ≡ base_attr i (Some (node_meant m n)))
-    → Put old 0 (line (attr_meant a)) r.end new → r.rest.at ≡ place_at next → r.rest.left ≡ rows.left - 1 → NextLine img rows old r new
-next-line {img} {old} {new} {rows} {r = r} a b d h p w k = record {
-  left = k;
-  line = λ e l s. rw (← (attr-taken a (row-taken s b d) h)) p;
-  rest = λ e l s.
-      let t = row-taken s b d in
-      record { end = t.end; spans = rw w t.spans; count = let z : rows.left ≡ suc (length l) = s.count in omega (arith, k, z); fits = s.fits.1 };
-}
+-- where the rows go on
+abbrev after : Rows → ℕ × M.Node → ℕ
+after rows e = rows.at + length ((inode then node).write e)
+
+module _ {img : List ℕ} {rows : Rows} {o : Result ((ℕ × Node) × ℕ) Fault} (k : ReadsRow img rows.at o) where
+  module _ {e : ℕ × M.Node} {l : List (ℕ × M.Node)} (s : Listed img rows (e ∷ l)) where
+    row-spans : Spans img rows.at ((inode then node).write e ++ rows_bytes inode node l) s.end
+    unfolding rows_bytes
+    row-spans = s.spans
+
+    row-is : meant (row_meant img) o ≡ Ok (e, after rows e)
+    row-is = span-reads (inode then node) (span-front ((inode then node).write e) (rows_bytes inode node l) row-spans) s.fits.0 k.reads
+
+    rest-spans : Spans img (after rows e) (rows_bytes inode node l) s.end
+    rest-spans = span-back ((inode then node).write e) (rows_bytes inode node l) row-spans
+
+  -- nothing could be read
+  pub no-line : {f : Fault} {old : List ℕ} {r : Line} → o ≡ Err f → r.rest.left ≡ rows.left - 1 → NextLine img rows old r old
+  no-line d q = record {
+    left = q;
+    line = λ e l s. never d s;
+    rest = λ e l s. never d s;
+  }
+    where
+      never : {X : Type 0} {f : Fault} {e : ℕ × M.Node} {l : List (ℕ × M.Node)} → o ≡ Err f → Listed img rows (e ∷ l) → X
+      never d s = let e = rw d at (row-is s) in absurd (let z : ◌≡◌ {A = ℕ} 0 1 = cc in omega arith)
+
+  -- the inode, its node and its line
+  pub next-line : {old new : List ℕ} {i : ℕ} {n : Node} {next : ℕ} {r : Line} (a : FileAttr) → o ≡ Ok ((i, n), next)
+      → ((m : List ℕ) → LinkIn m n.kind → Some (attr_meant a) ≡ base_attr i (Some (node_meant m n)))
+      → Put old 0 (line (attr_meant a)) r.end new → r.rest.at ≡ next → r.rest.left ≡ rows.left - 1 → NextLine img rows old r new
+  next-line {i = i} {n} {next} a d h p w q = record {
+    left = q;
+    line = λ e l s. rw (← (ap line_if (h img (rw d at k).link) ∙ ap line_of (taken s).0)) p;
+    rest = λ e l s. record {
+      end = s.end;
+      spans = rw (w ∙ (taken s).1) (rest-spans s);
+      count = let z : rows.left ≡ suc (length l) = s.count in omega (arith, q, z);
+      fits = s.fits.1;
+    };
+  }
+    where
+      taken : {e : ℕ × M.Node} {l : List (ℕ × M.Node)} (s : Listed img rows (e ∷ l)) → ((i, node_meant img n) ≡ e) × (next ≡ after rows e)
+      taken {e} s =
+          let c = rw d at (row-is s) in
+          let back : Result ((ℕ × M.Node) × ℕ) Fault → (ℕ × M.Node) × ℕ = λ r. result_unwrap_or r (e, 0) in
+          (ap (λ r. (back r).0) c, ap (λ r. (back r).1) c)

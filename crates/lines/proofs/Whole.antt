@@ -1,6 +1,6 @@
 -- What the program writes, piece by piece, is the whole listing.
 -- Assumes nothing.
-use Rattle.std.specs.Prelude.{None, Option, Some}
+use Rattle.std.specs.Prelude.{Ok, Err, None, Option, Some}
 use mathlib.Core.Path.{◌≡◌, refl, ap, ◌∙◌}
 use mathlib.Core.List.{List, [], ◌∷◌, ◌++◌}
 use mathlib.Core.Bool.{Bool, true, false, ◌&&◌, cond}
@@ -20,7 +20,8 @@ use Rattle.lines.specs.Lines.{heading, line, line_if, line_of, lines_of, refusal
 use Rattle.lines.specs.Rows.{Listed, HasRows, OpensTo, OpensListing, NextLine, longest, Pieces, done, piece}
 use Rattle.lines.specs.declared.rows.Rows.{Rows}
 use Rattle.lines.specs.declared.rows.Line.{Line}
-use Rattle.lines.specs.declared.rows.Opened.TheVariants as O
+use Rattle.survey.specs.Verdict.{number_of}
+use Rattle.survey.specs.declared.refusal.Refusal.{Refusal}
 
 -- ---- no line is longer than 94 bytes
 
@@ -64,10 +65,10 @@ pieces-lines (e ∷ l) r bytes h (piece {n = nl} {bytes = rest} z room n p) =
 
 -- ---- inodes stand wherever the program reads one
 
-pub opened_rows : {img old new : List ℕ} {rows : Rows} → OpensListing img old (O.Lines rows) new → HasRows new rows
+pub opened_rows : {img old new : List ℕ} {rows : Rows} → OpensListing img old (Ok rows) new → HasRows new rows
 opened_rows {img} {old} {new} {rows} o = go (snapshot_of (length old) img) o.opens
   where
-    go : (a : Answer Store) → OpensTo a (O.Lines rows) new → HasRows new rows
+    go : (a : Answer Store) → OpensTo a (Ok rows) new → HasRows new rows
     go (refused n) d = absurd (let z : ◌≡◌ {A = ℕ} 0 1 = cc in omega arith)
     go (answer s) d = let e : rows ≡ d.0 = cc in (s.base.rows, rw e d.2)
 
@@ -85,21 +86,21 @@ refusal-short n = simp length-append (omega (arith, digits-few 10 22 1 n))
 
 module _ {img old new : List ℕ} (lent : length old ≡ 65536) {buf line : List ℕ} {n : ℕ} (room : longest ≤ length buf) where
   -- the heading, and a piece for each inode
-  pub whole : {rows : Rows} {bytes : List ℕ} → OpensListing img old (O.Lines rows) new → Put buf 0 heading n line → Pieces new rows bytes
+  pub whole : {rows : Rows} {bytes : List ℕ} → OpensListing img old (Ok rows) new → Put buf 0 heading n line → Pieces new rows bytes
       → take n line ++ bytes ≡ listing_bytes img
   whole {rows} {bytes} o h p =
       rw (put-start h (omega arith)) (go (snapshot_of 65536 img) (rw lent at o.opens))
     where
-      go : (a : Answer Store) → OpensTo a (O.Lines rows) new → heading ++ bytes ≡ listing a
+      go : (a : Answer Store) → OpensTo a (Ok rows) new → heading ++ bytes ≡ listing a
       go (refused n) d = absurd (let z : ◌≡◌ {A = ℕ} 0 1 = cc in omega arith)
       go (answer s) d =
           let e : rows ≡ d.0 = cc in
           ap (λ (t : List ℕ). heading ++ t) (pieces-lines s.base.rows rows bytes (rw e d.2) p)
 
   -- or only the refusal
-  pub whole-refused : {m : ℕ} → OpensListing img old (O.Refused m) new → Put buf 0 (refusal m) n line → take n line ≡ listing_bytes img
-  whole-refused {m} o h = put-start h (omega (arith, refusal-short m)) ∙ go (snapshot_of 65536 img) (rw lent at o.opens)
+  pub whole-refused : {e : Refusal} → OpensListing img old (Err e) new → Put buf 0 (refusal (number_of e)) n line → take n line ≡ listing_bytes img
+  whole-refused {e} o h = put-start h (omega (arith, refusal-short (number_of e))) ∙ go (snapshot_of 65536 img) (rw lent at o.opens)
     where
-      go : (a : Answer Store) → OpensTo a (O.Refused m) new → refusal m ≡ listing a
-      go (refused k) d = let e : m ≡ k = cc in ap refusal e
+      go : (a : Answer Store) → OpensTo a (Err e) new → refusal (number_of e) ≡ listing a
+      go (refused k) d = let z : number_of e ≡ k = cc in ap refusal z
       go (answer s) d = let y = d.1 in absurd (let z : ◌≡◌ {A = ℕ} 0 1 = cc in omega arith)

@@ -1,5 +1,8 @@
 -- The inodes of a snapshot in its image, one after the other, and how the pieces that the program writes make up the whole.
-use Rattle.std.specs.Prelude.{◌≡◌, List, [], ◌∷◌, ◌++◌, ℕ, ◌-◌, ◌<◌, ◌≤◌, length, take}
+use Rattle.std.specs.Prelude.{◌≡◌, List, [], ◌∷◌, ◌++◌, ℕ, ◌-◌, ◌<◌, ◌≤◌, length, take, Result, Ok, Err, IfOk}
+use Rattle.wire.specs.declared.fault.Fault.{Fault}
+use Rattle.wire.specs.Combinators.{◌then◌}
+use Rattle.wire.specs.Reading.{Reads, meant}
 use Rattle.wire.specs.Put.{Put}
 use Rattle.wire.specs.Lists.{Every}
 use Rattle.image.specs.Meaning.{Node, Base, Store}
@@ -7,14 +10,17 @@ use Rattle.image.specs.FieldLayout.{inode}
 use Rattle.image.specs.NodeLayout.{node, base}
 use Rattle.change.specs.Cuts.{rows_bytes}
 use Rattle.change.specs.Sections.{Spans}
+use Rattle.survey.specs.Verdict.{numbered}
+use Rattle.survey.specs.declared.refusal.Refusal.{Refusal}
+use Rattle.nodes.specs.Nodes.{node_meant}
+use Rattle.nodes.specs.declared.node.Node as N
+use Rattle.attrs.specs.Attrs.{LinkIn}
 use Rattle.rules.specs.Initial.{usual}
 use Rattle.rules.specs.Answers.{Answer, refused, answer}
 use Rattle.rules.specs.ChangeCalls.{snapshot_all, written}
 use Rattle.lines.specs.Lines.{line_of, snapshot_of}
 use Rattle.lines.specs.declared.rows.Rows.{Rows}
 use Rattle.lines.specs.declared.rows.Line.{Line}
-use Rattle.lines.specs.declared.rows.Opened.{Opened}
-use Rattle.lines.specs.declared.rows.Opened.TheVariants as O
 
 -- these inodes with their nodes stand in the image, from the place on: "Base: by rising inode: inode; kind .."
 pub record Listed (img : List ℕ) (r : Rows) (l : List (ℕ × Node)) : Type 0 where
@@ -32,14 +38,22 @@ abbrev pub FirstRows : List ℕ → Rows → Type 0
 FirstRows img r = (b : Base) (end : ℕ) → base.Fits b → Spans img 0 (base.write b) end → Listed img r b.rows
 
 -- the refusal, or the inodes of the snapshot
-abbrev pub OpensTo : Answer Store → Opened → List ℕ → Type 0
-OpensTo (refused n) r new = r ≡ O.Refused n
-OpensTo (answer s) r new = (rows : Rows) × (r ≡ O.Lines rows) × Listed new rows s.base.rows
+abbrev pub OpensTo : Answer Store → Result Rows Refusal → List ℕ → Type 0
+OpensTo (refused n) r new = numbered r ≡ Err n
+OpensTo (answer s) r new = (rows : Rows) × (r ≡ Ok rows) × Listed new rows s.base.rows
 
 -- the target has the snapshot's image
-pub record OpensListing (img old : List ℕ) (r : Opened) (new : List ℕ) : Type 0 where
+pub record OpensListing (img old : List ℕ) (r : Result Rows Refusal) (new : List ℕ) : Type 0 where
   pub opens : OpensTo (snapshot_of (length old) img) r new
   pub leaves : new ≡ written (snapshot_all usual img (length old)) old
+
+-- an inode and its node were read
+abbrev pub row_meant : List ℕ → ℕ × N.Node → ℕ × Node
+row_meant img r = (r.0, node_meant img r.1)
+
+pub record ReadsRow (img : List ℕ) (at : ℕ) (r : Result ((ℕ × N.Node) × ℕ) Fault) : Type 0 where
+  pub reads : Reads img (inode then node).read at (meant (row_meant img) r)
+  pub link : IfOk r (λ x. LinkIn img x.0.1.kind)
 
 -- the line of the first of the inodes, and the inodes after it; one less is left, whatever stands there
 pub record NextLine (img : List ℕ) (rows : Rows) (old : List ℕ) (r : Line) (new : List ℕ) : Type 0 where

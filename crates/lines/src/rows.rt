@@ -1,13 +1,13 @@
 // The snapshot that a listing shows, and its lines, one inode after the other.
-ghost use Rattle.lines.specs.Rows.{FirstRows, OpensListing, NextLine};
+ghost use Rattle.lines.specs.Rows.{FirstRows, OpensListing, NextLine, ReadsRow};
 
 use crate::digit::less_one;
 use crate::line::put_line;
 use attrs::attr::node_attr;
 use flush::flush::snapshot_all;
+use image::field::LAST_WORD;
 use nodes::node::{Node, read_node};
 use survey::refusal::Refusal;
-use image::field::LAST_WORD;
 use wire::fault::Fault;
 use wire::number::read_number;
 
@@ -47,7 +47,7 @@ pub fn put_next(buf: &mut [u8], snapshot: &[u8], rows: Rows) -> Line
     ensures { NextLine snapshot.now rows buf.old result buf.new }
 {
     let left = less_one(rows.left);
-    let Ok((inode, node, at)) = read_row(snapshot, rows.at) else {
+    let Ok(((inode, node), at)) = read_row(snapshot, rows.at) else {
         return Line {
             end: 0,
             rest: Rows { at: rows.at, left },
@@ -61,10 +61,10 @@ pub fn put_next(buf: &mut [u8], snapshot: &[u8], rows: Rows) -> Line
 }
 
 // The inode and the node at a place, and the place after them.
-fn read_row(img: &[u8], at: usize) -> Result<(u64, Node, usize), Fault>
+fn read_row(img: &[u8], at: usize) -> Result<((u64, Node), usize), Fault>
     ensures { ReadsRow img.now at result }
 {
     let (inode, start) = read_number(img, at, u64::MAX)?;
     let (node, next) = read_node(img, start)?;
-    Ok((inode, node, next))
+    Ok(((inode, node), next))
 }

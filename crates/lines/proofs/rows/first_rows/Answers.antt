@@ -2,4 +2,4 @@ use Rattle.lines.proofs.Rowed.{rows-first}
 use Rattle.lines.proofs.rows.first_rows.Goals as goal
 
 pub returns : goal.returns
-returns c = rows-first c.read_number-count.ensures c.place_at.ensures
+returns c = rows-first c.read_number.ensures c.unwrap_or-left.ensures

@@ -1,9 +1,10 @@
 use mathlib.Core.Path.{refl}
+use Rattle.wire.proofs.Readers.{handed}
 use Rattle.lines.proofs.Opening.{opened-refused, opened-lines}
 use Rattle.lines.proofs.rows.open_listing.Goals as goal
 
-pub returns-in-Refused : goal.returns-in-Refused
-returns-in-Refused c = opened-refused c.snapshot_all-answer.ensures c.in-Refused.is refl
+pub returns-in_err-snapshot_all : goal.returns-in_err-snapshot_all
+returns-in_err-snapshot_all c = opened-refused c.snapshot_all.ensures c.in_err-snapshot_all.was (handed c.from_residual.ensures)
 
-pub returns-in-Length : goal.returns-in-Length
-returns-in-Length c = opened-lines c.snapshot_all-answer.ensures c.in-Length.is c.first_rows-rows.ensures refl
+pub returns : goal.returns
+returns c = opened-lines c.snapshot_all.ensures c.in_ok-snapshot_all.was c.first_rows.ensures refl

@@ -1,5 +1,9 @@
-use Rattle.lines.proofs.Rowed.{next-line}
+use mathlib.Core.Path.{refl}
+use Rattle.lines.proofs.Rowed.{no-line, next-line}
 use Rattle.lines.proofs.rows.put_next.Goals as goal
 
+pub returns-in_default : goal.returns-in_default
+returns-in_default c = no-line c.read_row.ensures c.in_default.is c.less_one-left.ensures
+
 pub returns : goal.returns
-returns c = next-line c.node_attr-attr.result c.read_number-inode.ensures c.read_node-read.ensures c.node_attr-attr.ensures c.put_line-end.ensures c.place_at.ensures c.less_one.ensures
+returns c = next-line c.read_row.ensures c.node_attr.result c.in-Ok.is c.node_attr.ensures c.put_line-end.ensures refl c.less_one-left.ensures
