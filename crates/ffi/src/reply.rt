@@ -1,5 +1,7 @@
 // What the exported calls answer. In each, `refusal` is the number of the refusal, 0 for none.
-ghost use Rattle.std.specs.Prelude.{◌≡◌, option_map};
+ghost use Rattle.std.specs.Prelude.{◌≡◌};
+ghost use Rattle.stack.specs.Stacks.{type_of};
+ghost use Rattle.layers.specs.Attrs.{attr_if};
 ghost use Rattle.rules.specs.Answers.{answer};
 ghost use Rattle.nodes.specs.Options.{text_of as textMeant};
 ghost use Rattle.attrs.specs.Meant.{kind_meant, attr_meant};
@@ -99,7 +101,7 @@ pub fn yes_no_reply(answer: Result<bool, Refusal>) -> YesNoReply
 }
 
 pub fn type_reply(answer: Result<Option<FileType>, Refusal>) -> TypeReply
-    ensures { result ≡ type_reply (answered (option_map kind_meant) answer) }
+    ensures { result ≡ type_reply (answered type_of answer) }
 {
     match answer {
         Ok(Some(kind)) => TypeReply {
@@ -121,7 +123,7 @@ pub fn type_reply(answer: Result<Option<FileType>, Refusal>) -> TypeReply
 }
 
 pub fn inode_reply(answer: Result<Option<u64>, Refusal>) -> InodeReply
-    ensures { result ≡ inode_reply (answered (λ inode. inode) answer) }
+    ensures { result ≡ inode_reply (answered (λ found. found) answer) }
 {
     match answer {
         Ok(Some(inode)) => InodeReply {
@@ -198,7 +200,7 @@ fn no_attr(refusal: u32) -> AttrReply
 }
 
 pub fn attr_reply(answer: Result<Option<FileAttr>, Refusal>) -> AttrReply
-    ensures { result ≡ attr_reply (answered (option_map attr_meant) answer) }
+    ensures { result ≡ attr_reply (answered attr_if answer) }
 {
     match answer {
         Ok(Some(attr)) => AttrReply {

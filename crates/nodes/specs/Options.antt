@@ -1,7 +1,6 @@
 -- What a value that is there, or not, means. Document 01: "`Option` becomes an enum", "texts as places beside it".
 use Rattle.std.specs.Prelude.{List, ℕ, ◌+◌, ◌≤◌, length, Result, IfOk, None, Option, Some}
 use Rattle.wire.specs.declared.fault.Fault.{Fault}
-use Rattle.wire.specs.declared.time.Time.{Time}
 use Rattle.wire.specs.Text.{text-read}
 use Rattle.wire.specs.Reading.{part, Reads, meant}
 use Rattle.image.specs.Meaning.{Text}

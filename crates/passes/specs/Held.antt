@@ -1,5 +1,5 @@
 -- The two sorts of lists by inode, and what finding an inode in one answers.
-use Rattle.std.specs.Prelude.{◌≡◌, refl, List, ℕ, length, drop, Result, Ok, Err, Some, None, Option}
+use Rattle.std.specs.Prelude.{◌≡◌, refl, List, ℕ, length, drop, Result, Ok, Err, None, Option}
 use Rattle.std.specs.Prelude.{Option}
 use Rattle.wire.specs.declared.fault.Fault.{Fault}
 use Rattle.wire.specs.Codec.{Codec}

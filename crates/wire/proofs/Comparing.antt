@@ -1,43 +1,34 @@
--- The order of two texts, one byte at a time.
+-- The library's order of two texts is theirs: the first byte in which they differ decides.
 -- Assumes nothing.
-use mathlib.Core.Path.{◌≡◌, refl, ◌∙◌}
-use mathlib.Core.List.{List}
-use Prim.Native.Nat.{ℕ, ◌+◌, ◌≤◌, ◌<◌}
-use native.Mathlib.Numerals.{add-one}
+use mathlib.Core.Path.{◌≡◌, refl, sym, ◌∙◌}
+use mathlib.Core.Bool.{Bool, true, false, cond}
+use mathlib.Core.Logic.{◌≢◌}
+use mathlib.Core.List.{List, [], ◌∷◌}
+use Prim.Native.Nat.{ℕ, ◌≤◌}
 use native.Mathlib.Omega.{arith}
-use lib.ListN.{length, get_or, drop, drop_of_length-le}
-use lib.Seq.{drop-cons}
-use Rattle.wire.specs.Orders.{by_bytes, less-N, greater-N, equal-N}
+use lib.Dec.{ltb, eqb}
+use borrow.Author.Tests.{ltb-true, ltb-false, eqb-true, eqb-false}
+use Rattle.std.specs.declared.cmp.Ordering.{Ordering}
 use Rattle.std.specs.declared.cmp.Ordering.TheVariants.{Less, Equal, Greater}
+use Rattle.std.specs.Ordering.{nat_cmp, ordering_then}
+use Rattle.std.specs.Cmp.Lexicographic.{slice_cmp}
+use Rattle.wire.specs.Orders.{by_bytes, cmp_n, and_then, less-N, greater-N, equal-N}
 
--- a and b agree before i
-pub record Agree (a b : List ℕ) (i : ℕ) : Type 0 where
-  pub in_a : i ≤ length a
-  pub in_b : i ≤ length b
-  pub is : by_bytes.cmp a b ≡ by_bytes.cmp (drop i a) (drop i b)
+same-then : (r s : Ordering) → ordering_then r s ≡ and_then r s
+same-then Less s = refl
+same-then Equal s = refl
+same-then Greater s = refl
 
-pub agree-none : (a b : List ℕ) → Agree a b 0
-agree-none a b = record { in_a = omega arith; in_b = omega arith; is = refl }
+same-one : (x y : ℕ) → nat_cmp x y ≡ cmp_n x y
+same-one x y = go (ltb x y) refl (eqb x y) refl
+  where
+    go : (s : Bool) → ltb x y ≡ s → (t : Bool) → eqb x y ≡ t → cond s Less (cond t Equal Greater) ≡ cmp_n x y
+    go true p t q = sym (less-N x y (ltb-true x y p))
+    go false p true q = let e : x ≡ y = eqb-true x y q in sym (equal-N x y (omega arith) (omega arith))
+    go false p false q = let h : y ≤ x = ltb-false x y p in let n : x ≢ y = eqb-false x y q in sym (greater-N x y (omega arith))
 
-module _ {a b : List ℕ} {i : ℕ} (h : Agree a b i) where
-  pub agree-more : i < length a → i < length b → get_or a i 0 ≤ get_or b i 0 → get_or b i 0 ≤ get_or a i 0 → Agree a b (i + 1)
-  agree-more la lb p q = record {
-    in_a = omega arith;
-    in_b = omega arith;
-    is = h.is ∙ rw (add-one, drop-cons a i 0 la, drop-cons b i 0 lb, equal-N (get_or a i 0) (get_or b i 0) p q);
-  }
-
-  pub less : i < length a → i < length b → get_or a i 0 < get_or b i 0 → Less ≡ by_bytes.cmp a b
-  less la lb p = rw (h.is, drop-cons a i 0 la, drop-cons b i 0 lb, less-N (get_or a i 0) (get_or b i 0) p)
-
-  pub greater : i < length a → i < length b → get_or b i 0 < get_or a i 0 → Greater ≡ by_bytes.cmp a b
-  greater la lb p = rw (h.is, drop-cons a i 0 la, drop-cons b i 0 lb, greater-N (get_or a i 0) (get_or b i 0) p)
-
-  pub longer : i < length a → length b ≤ i → Greater ≡ by_bytes.cmp a b
-  longer la lb = rw (h.is, drop-cons a i 0 la, drop_of_length-le b lb)
-
-  pub shorter : length a ≤ i → i < length b → Less ≡ by_bytes.cmp a b
-  shorter la lb = rw (h.is, drop_of_length-le a la, drop-cons b i 0 lb)
-
-  pub equal : length a ≤ i → length b ≤ i → Equal ≡ by_bytes.cmp a b
-  equal la lb = rw (h.is, drop_of_length-le a la, drop_of_length-le b lb)
+pub same-order : (a b : List ℕ) → slice_cmp nat_cmp a b ≡ by_bytes.cmp a b
+same-order [] [] = refl
+same-order [] (y ∷ b) = refl
+same-order (x ∷ a) [] = refl
+same-order (x ∷ a) (y ∷ b) = same-then (nat_cmp x y) (slice_cmp nat_cmp a b) ∙ (λ i. and_then (same-one x y i) (same-order a b i))

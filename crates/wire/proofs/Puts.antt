@@ -2,7 +2,8 @@
 -- Assumes nothing.
 use mathlib.Core.Path.{◌≡◌, refl, sym, ap, ◌∙◌}
 use mathlib.Core.Logic.{⊎_elim}
-use mathlib.Core.List.{List, [], ◌∷◌, ◌++◌}
+use mathlib.Core.List.{List, [], ◌∷◌, ◌++◌, append_assoc}
+use borrow.Rule.Slice.PartMut.{put_mid, Post-is}
 use Prim.Native.Nat.{ℕ, suc, ◌+◌, ◌-◌, ◌/◌, ◌%◌, ◌≤◌, ◌<◌, min}
 use native.Mathlib.Nat.{add-zero, suc-add, add-suc}
 use native.Mathlib.Numerals.{add-one}
@@ -90,6 +91,11 @@ module _ {l : List ℕ} {at : ℕ} {xs m : List ℕ} {i : ℕ} (c : Copied l at 
 
   pub copied_all : {count next : ℕ} → count ≡ min (length xs) (length l - at) → count ≤ i → next ≡ min (at + length xs) edge → length l < edge → Put l at xs next m
   copied_all e h n short = record { to = n; is = c.is ∙ sets-rest (omega arith); short = short }
+
+-- the buffer with ys in the place of as many bytes
+pub mid-sets : (l ys : List ℕ) (at : ℕ) {n : ℕ} → length ys ≡ n → at + n ≤ length l → put_mid at (at + n - at) l ys ≡ sets l at ys
+mid-sets l ys at {n} e h =
+    rw (Post-is at (at + n) l (omega arith)) (sym (append_assoc (take at l) ys (drop (at + n) l)) ∙ sym (rw e at (sets-eq ys l at (omega (arith, e)))))
 
 -- ---- the loop that writes a number: from i on, ys is left to write into l, and then xs stands from `at` on in what was l₀
 pub record Left (l₀ : List ℕ) (at : ℕ) (xs l : List ℕ) (i : ℕ) (ys : List ℕ) : Type 0 where

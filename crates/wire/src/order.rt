@@ -9,23 +9,7 @@ use std::cmp::Ordering;
 pub fn compare(a: &[u8], b: &[u8]) -> Ordering
     ensures { result ≡ by_bytes.cmp a.now b.now }
 {
-    let mut i = 0;
-    while i < a.len() {
-        if b.len() <= i {
-            return Ordering::Greater;
-        }
-        if a[i] < b[i] {
-            return Ordering::Less;
-        }
-        if b[i] < a[i] {
-            return Ordering::Greater;
-        }
-        i += 1;
-    }
-    if i < b.len() {
-        return Ordering::Less;
-    }
-    Ordering::Equal
+    a.cmp(&b)
 }
 
 // The order of a part of the image and a name, compared where the part stands.

@@ -21,11 +21,9 @@ pub fn put_byte(buf: &mut [u8], at: usize, byte: u8) -> usize
 pub fn put_bytes(buf: &mut [u8], at: usize, bytes: &[u8]) -> usize
     ensures { Put buf.old at bytes.now result buf.new }
 {
-    let count = fitting(buf.len(), at, bytes.len());
-    let mut i = 0;
-    while i < count {
-        buf[at + i] = bytes[i];
-        i += 1;
+    if at < buf.len() {
+        let count = bytes.len().min(buf.len() - at);
+        buf[at..at + count].copy_from_slice(&bytes[..count]);
     }
     advance(at, bytes.len())
 }
@@ -41,21 +39,5 @@ pub fn put_part(buf: &mut [u8], at: usize, s: &[u8], start: usize, length: usize
 pub fn advance(at: usize, count: usize) -> usize
     ensures { result ≡ min (at + count) edge }
 {
-    if 0xFFFF_FFFF_FFFF_FFFF - at < count {
-        return 0xFFFF_FFFF_FFFF_FFFF;
-    }
-    at + count
-}
-
-// How many of `count` bytes are inside a buffer of `length` bytes, from `at` on.
-fn fitting(length: usize, at: usize, count: usize) -> usize
-    ensures { result ≡ min count (length - at) }
-{
-    if length <= at {
-        return 0;
-    }
-    if length - at < count {
-        return length - at;
-    }
-    count
+    at.saturating_add(count)
 }

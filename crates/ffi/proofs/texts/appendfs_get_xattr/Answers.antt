@@ -1,12 +1,14 @@
+use mathlib.Core.Path.{ap, ◌∙◌}
 use Rattle.stack.proofs.Naming.{xattr-refused, xattr-fine}
+use Rattle.ffi.specs.Replies.{no_text}
 use Rattle.ffi.proofs.Replying.{no-text-refused}
 use Rattle.ffi.proofs.texts.appendfs_get_xattr.Goals as goal
 
-pub returns-then-refusal-ne0 : goal.returns-then-refusal-ne0
-returns-then-refusal-ne0 c = no-text-refused _ (xattr-refused c.open_named-opened.ensures c.if-refusal-ne0.true) c.no_text.ensures
+pub returns-in-Err : goal.returns-in-Err
+returns-in-Err c = no-text-refused _ (xattr-refused c.open_named.ensures c.in-Err.is) (c.no_text.ensures ∙ ap no_text c.number.ensures)
 
 pub xattr_in-requires : goal.xattr_in-requires
-xattr_in-requires c = (c.open_named-opened.ensures.stack c.if-refusal-ne0.false).stacked
+xattr_in-requires c = (rw c.in-Ok.is at c.open_named.ensures).stack.stacked
 
-pub returns : goal.returns
-returns c = rw (xattr-fine c.open_named-opened.ensures c.if-refusal-ne0.false c.xattr_in.ensures) c.text_reply.ensures
+pub returns-in-Ok : goal.returns-in-Ok
+returns-in-Ok c = rw (xattr-fine c.open_named.ensures c.in-Ok.is c.xattr_in.ensures) c.text_reply.ensures

@@ -1,18 +1,18 @@
 use native.Mathlib.Omega.{arith}
-use Rattle.wire.proofs.Puts.{copied_none, copied-length, copied_more, copied_all, put-length}
+use mathlib.Core.Path.{◌≡◌, refl}
+use lib.ListN.{length, take}
+use lib.Seq.{length-take-le}
+use Rattle.wire.proofs.Puts.{copied_none, copied_all, mid-sets}
 use Rattle.wire.proofs.put.put_bytes.Goals as goal
-
-pub loop-i-init : goal.loop-i-init
-loop-i-init c = copied_none
-
-pub bounds-buf-at : goal.bounds-buf-at
-bounds-buf-at c = omega (arith, copied-length c.loop-i.invariant)
-
-pub loop-i-preserved : goal.loop-i-preserved
-loop-i-preserved c = copied_more c.loop-i.invariant (omega arith)
+use Rattle.wire.proofs.put.put_bytes.Goals.{then-at-buf, else-at-buf}
 
 pub returns : goal.returns
-returns c = copied_all c.loop-i.invariant c.fitting-count.ensures (omega arith) c.advance.ensures (omega arith)
-
-pub shape_of-buf : goal.shape_of-buf
-shape_of-buf c = put-length (returns c)
+returns c =
+    elim c.if-at-buf.branch [
+      | then-at-buf w ↦
+          let n = w.min-count.result in
+          let long : length (take n c.args.bytes.now) ≡ n = length-take-le n c.args.bytes.now (omega arith) in
+          rw (w.buf-is, w.copy_from_slice.ensures.after, mid-sets c.args.buf.now (take n c.args.bytes.now) c.args.at long (omega arith))
+          (copied_all {i = n} (record { is = refl; within = omega arith }) w.min-count.ensures (omega arith) c.advance.ensures (omega arith))
+      | else-at-buf w ↦ rw w.buf-is (copied_all copied_none {count = 0} (omega arith) (omega arith) c.advance.ensures (omega arith))
+    ]
