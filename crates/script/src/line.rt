@@ -1,7 +1,8 @@
 // The words of a line.
 ghost use Rattle.std.specs.Prelude.{◌≤◌, length};
 
-use wire::order::{Ordering, compare_part};
+use std::cmp::Ordering;
+use wire::order::compare_part;
 
 // The word of this number, counted from 0; none is the empty word.
 pub fn word(line: &[u8], number: usize) -> &[u8] {
@@ -9,11 +10,7 @@ pub fn word(line: &[u8], number: usize) -> &[u8] {
 }
 
 pub fn same(a: &[u8], b: &[u8]) -> bool {
-    match compare_part(a, 0, a.len(), b) {
-        Ordering::Less => false,
-        Ordering::Equal => true,
-        Ordering::Greater => false,
-    }
+    compare_part(a, 0, a.len(), b) == Ordering::Equal
 }
 
 // A decimal number; the largest one where it is larger than that.
