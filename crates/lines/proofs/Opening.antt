@@ -94,7 +94,10 @@ fits-base h = h.base
 
 module _ {img old new : List ℕ} {made : Result ℕ Refusal} (h : Changes (snapshot_all usual img (length old)) old made new) {r : Result Rows Refusal} where
   pub opened-refused : {e : Refusal} → made ≡ Err e → r ≡ Err e → OpensListing img old r new
-  opened-refused {e} a d = record { opens = go (snapshot_of (length old) img) (sym (ap numbered a) ∙ h.answers ∙ ap answered (snapshot-bytes (length old) img)); leaves = h.leaves }
+  opened-refused {e} a d = record {
+    opens = go (snapshot_of (length old) img) (sym (ap numbered a) ∙ h.answers ∙ ap answered (snapshot-bytes (length old) img));
+    leaves = h.leaves;
+  }
     where
       go : (o : Answer Store) → Err (number_of e) ≡ answered (map_answer write_image o) → OpensTo o r new
       go (refused m) x = ap numbered d ∙ let z : number_of e ≡ m = cc in ap Err z

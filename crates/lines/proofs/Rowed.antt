@@ -41,10 +41,12 @@ use Rattle.lines.specs.declared.rows.Line.{Line}
 pub base-bytes : (b : Base) → base.write b ≡ number_bytes (length b.rows) ++ rows_bytes inode node b.rows
 base-bytes b = ap (λ (t : List ℕ). number_bytes (length b.rows) ++ t) (chain-rows by_number inode node None b.rows)
 
-pub rows-first : {img : List ℕ} {o : Result (ℕ × ℕ) Fault} {x : ℕ × ℕ} → Reads img (number_read last_count) 0 o → x ≡ result_unwrap_or o (0, 0) → FirstRows img (record { at = x.1; left = x.0 })
+pub rows-first : {img : List ℕ} {o : Result (ℕ × ℕ) Fault} {x : ℕ × ℕ} → Reads img (number_read last_count) 0 o → x ≡ result_unwrap_or o (0, 0)
+    → FirstRows img (record { at = x.1; left = x.0 })
 rows-first {img} {o} {x} a z = λ b end f w.
     let v = rw (base-bytes b) at w in
-    let g = value-is (0, 0) (span-reads (number_to last_count refl) (span-front (number_bytes (length b.rows)) (rows_bytes inode node b.rows) v) (omega (arith, f.count)) a) z in
+    let g = value-is (0, 0) (span-reads (number_to last_count refl) (span-front (number_bytes (length b.rows)) (rows_bytes inode node b.rows) v)
+        (omega (arith, f.count)) a) z in
     let at : x.1 ≡ 0 + length (number_bytes (length b.rows)) = ap (λ (x : ℕ × ℕ). x.1) g in
     record {
       end = end;

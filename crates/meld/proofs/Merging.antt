@@ -63,7 +63,8 @@ module _ {bytes : List ℕ} {l : Left} {o : Result (Part × ℕ) Fault} (h : Rea
     unfolding rows_read
     row-stopped e = record { is = go l.count (rw d at h).same (ends-fault (rw e at p)) }
       where
-        go : {f : Fault} (m : ℕ) → name.read (drop l.first bytes) ≡ got (text_at bytes t) (drop start bytes) → (maybe value).read (drop start bytes) ≡ fault f → rows_read m (drop l.first bytes) ≡ []
+        go : {f : Fault} (m : ℕ) → name.read (drop l.first bytes) ≡ got (text_at bytes t) (drop start bytes)
+            → (maybe value).read (drop start bytes) ≡ fault f → rows_read m (drop l.first bytes) ≡ []
         go zero r e = refl
         go (suc m) r e = rw (r, e)
 
@@ -71,7 +72,8 @@ abbrev row_to : Left → Part → ℕ → Row
 row_to l t end = record { name = t; rest = record { first = end; count = l.count - 1 } }
 
 -- the name, and what stands under it
-leads-to : (bytes : List ℕ) (l : Left) (t : Part) (m end : ℕ) (v : Option Text) → (l.count ≡ 0 → ⊥) → name.read (drop l.first bytes) ≡ got (text_at bytes t) (drop m bytes)
+leads-to : (bytes : List ℕ) (l : Left) (t : Part) (m end : ℕ) (v : Option Text) → (l.count ≡ 0 → ⊥)
+    → name.read (drop l.first bytes) ≡ got (text_at bytes t) (drop m bytes)
     → (maybe value).read (drop m bytes) ≡ got v (drop end bytes) → end ≤ length bytes → Leads bytes l (row_to l t end)
 unfolding rows_read
 leads-to bytes l t m end v c r p h =
@@ -130,7 +132,8 @@ module _ {img given : List ℕ} {new old : Left} where
         record { is = record { row = (text_at img lower.name, l.change); is = rw (ended a e, l.is); spells = l.spells; less = omega (arith, l.less) } }
 
   -- that of the image has
-  pub turn-own : {o u : Option Row} {upper : Row} → RowIs given new o → o ≡ Some upper → RowIs img old u → u ≡ None → TurnIs img given new old (Some (own_turn new upper old))
+  pub turn-own : {o u : Option Row} {upper : Row} → RowIs given new o → o ≡ Some upper → RowIs img old u → u ≡ None
+      → TurnIs img given new old (Some (own_turn new upper old))
   unfolding melded rows_below rows_above
   turn-own {upper = upper} a e b d =
       let l = leads a e in
@@ -193,7 +196,8 @@ pub record Merging (img given buf₀ : List ℕ) (at : ℕ) (first : Option Turn
 pub merging-none : {img given buf : List ℕ} {at : ℕ} {turn : Option Turn} → length buf < edge → Fits w64 at → Merging img given buf at turn buf turn at 0
 merging-none h k = record { on = λ q l p. p; counts = omega arith; few = omega arith; low = omega (arith, k.fits); short = h }
 
-module _ {img given buf₀ : List ℕ} {at : ℕ} {first : Option Turn} {buf : List ℕ} {next : Option Turn} {end count : ℕ} (m : Merging img given buf₀ at first buf next end count) where
+module _ {img given buf₀ : List ℕ} {at : ℕ} {first : Option Turn} {buf : List ℕ} {next : Option Turn} {end count : ℕ}
+    (m : Merging img given buf₀ at first buf next end count) where
   module _ {turn : Turn} (e : next ≡ Some turn) where
     pub merging-few : {new old : Left} → TurnIs img given new old first → count + 1 ≤ new.count + old.count
     merging-few t = let z = rw e at m.few in omega (arith, z, turn-size first t)
@@ -202,7 +206,8 @@ module _ {img given buf₀ : List ℕ} {at : ℕ} {first : Option Turn} {buf : L
       pub merging-less : turn_size turn' < turn_size next
       merging-less = rw e (omega (arith, turn-size turn' t))
 
-      pub merging-more : {buf' : List ℕ} {end' : ℕ} → Put buf end (turn_bytes img given turn) end' buf' → Merging img given buf₀ at first buf' turn' end' (count + 1)
+      pub merging-more : {buf' : List ℕ} {end' : ℕ} → Put buf end (turn_bytes img given turn) end' buf'
+          → Merging img given buf₀ at first buf' turn' end' (count + 1)
       merging-more {buf'} {end'} p =
           let z = rw e at m.counts in
           let f = rw e at m.few in

@@ -90,7 +90,8 @@ module _ {img : List ℕ} {at : ℕ} {o : Result (ℕ × ℕ) Fault} (n : Reads 
   -- the code of a live tombstone
   dead-code : {after : ℕ} → Spans img at (layer_record.write tombstone) after → (after' : ℕ) × (o ≡ Ok (0, after'))
   dead-code {after} w =
-      (at + length (number_bytes 0), span-reads (number_to 7 refl) (span-front (number_bytes 0) [] (subst (λ (t : List ℕ). Spans img at t after) dead-bytes w)) (omega arith) n)
+      (at + length (number_bytes 0),
+      span-reads (number_to 7 refl) (span-front (number_bytes 0) [] (subst (λ (t : List ℕ). Spans img at t after) dead-bytes w)) (omega arith) n)
 
   module _ (after : ℕ) (d : Delta) (w : Spans img at (layer_record.write (delta d)) after) where
     delta-span : Spans img at (number_bytes (code_of d) ++ (fields.write d.fields ++ changed d.change)) after
@@ -110,7 +111,10 @@ module _ {img : List ℕ} {at : ℕ} {o : Result (ℕ × ℕ) Fault} (n : Reads 
 
     -- "does nothing on a live tombstone"
     pub onto-dead : {a : AttrDelta} → x.0 ≡ 0 → Onto img at a N.Tombstone
-    onto-dead e = record { stays = λ after w. refl; merges = λ after d f w. let c : x.0 ≡ code_of d = ap (λ (x : ℕ × ℕ). x.0) (code-is after d w) in absurd (omega (arith, e, c)) }
+    onto-dead e = record {
+      stays = λ after w. refl;
+      merges = λ after d f w. let c : x.0 ≡ code_of d = ap (λ (x : ℕ × ℕ). x.0) (code-is after d w) in absurd (omega (arith, e, c));
+    }
 
     module _ {u : Result (AttrDelta × ℕ) Fault} (r : ReadsAttr img x.1 u) where
       module _ (after : ℕ) (d : Delta) (f : FitsRecord (delta d)) (w : Spans img at (layer_record.write (delta d)) after) where
@@ -140,14 +144,16 @@ module _ {img : List ℕ} {at : ℕ} {o : Result (ℕ × ℕ) Fault} (n : Reads 
 
           -- the delta with the fields given over its own
           merged-bytes : (a : AttrDelta) (given : List ℕ) (last : ℕ) → ListedIf given U.Change a.xattrs last
-              → number_bytes x.0 ++ (attr_bytes (attr_over a b) ++ (changes_anew img given a.xattrs b.xattrs ++ between img end after)) ≡ layer_record.write (merged_delta given a d)
+              → number_bytes x.0 ++ (attr_bytes (attr_over a b) ++ (changes_anew img given a.xattrs b.xattrs ++ between img end after))
+              ≡ layer_record.write (merged_delta given a d)
           merged-bytes a given last h =
               let c : x.0 ≡ code_of d = ap (λ (x : ℕ × ℕ). x.0) (code-is after d w) in
               let m = changes_anew img given a.xattrs b.xattrs in
               (λ j. number_bytes (c j) ++ (attr_bytes (attr_over a b) ++ (m ++ change-span j)))
               ∙ ap (λ (l : List ℕ). number_bytes (code_of d) ++ l) (sym (append_assoc (attr_bytes (attr_over a b)) m (changed d.change)))
               ∙ ap (λ (t : List ℕ). number_bytes (code_of d) ++ (t ++ changed d.change))
-              (fields-over-bytes img given a b last end h (rw g at r).listed ∙ ap (λ (x : Fields). fields.write (merge_fields (fields_meant given a) x)) fields-are.0)
+              (fields-over-bytes img given a b last end h (rw g at r).listed
+              ∙ ap (λ (x : Fields). fields.write (merge_fields (fields_meant given a) x)) fields-are.0)
               ∙ sym (delta-bytes (merge_fields (fields_meant given a) d.fields) d.change)
 
         -- "Update merges into a live delta, field by field and attribute by attribute"

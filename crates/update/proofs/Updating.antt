@@ -206,7 +206,8 @@ module _ {img : List ℕ} {p : Sections} {s : Store} (given : List ℕ) {old : L
 
   pub update-made : {i : ℕ} {stk : InodeLayerStack} {a : AttrDelta} {n : NewLive} {new : List ℕ} {answer : Result ℕ Refusal} → o ≡ Some a
       → StackOf img i stk → Updates img p stk i a n
-      → Changes (if_fits (one_image img given given p n) (length old)) old answer new → Changes (update_attr_delta usual img i given (length old)) old answer new
+      → Changes (if_fits (one_image img given given p n) (length old)) old answer new
+      → Changes (update_attr_delta usual img i given (length old)) old answer new
   unfolding result
   update-made {i} e k u z =
       let g = rw e at r in

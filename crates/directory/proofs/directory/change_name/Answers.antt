@@ -11,7 +11,8 @@ pub returns-then-bad_name : goal.returns-then-bad_name
 returns-then-bad_name c = λ call y. name-refused y c.in_ok-sections.ensures.sections.1 (sym c.bad_name.ensures ∙ c.if-bad_name.true)
 
 pub returns-then-time-ge1000000000 : goal.returns-then-time-ge1000000000
-returns-then-time-ge1000000000 c = λ call y. time-refused y c.in_ok-sections.ensures.sections.1 (sym c.bad_name.ensures ∙ c.if-bad_name.false) c.if-time-ge1000000000.true
+returns-then-time-ge1000000000 c = λ call y. time-refused y c.in_ok-sections.ensures.sections.1
+    (sym c.bad_name.ensures ∙ c.if-bad_name.false) c.if-time-ge1000000000.true
 
 pub returns : goal.returns
 returns c = λ call y. name-made y c.in_ok-sections.ensures.sections.1 (sym c.bad_name.ensures ∙ c.if-bad_name.false) c.if-time-ge1000000000.false

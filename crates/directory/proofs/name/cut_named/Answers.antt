@@ -24,13 +24,15 @@ loop-init c = rw sub-zero (cut-start by_bytes nameText (under c.args.what))
 pub returns-in-Equal : goal.returns-in-Equal
 returns-in-Equal c = let value = under c.args.what in
     let equal = against (text_at c.args.img.now c.in-Ok.text) c.args.name.now c.compare_part.ensures c.in-Equal.is in
-    cut-found by_bytes nameText value c.loop.invariant (omega arith) (part-read c.read_text.ensures c.in-Ok.is) ([], 0) refl (rw c.in-Ok-pass_under.is at c.pass_under.ensures) 0 refl equal
+    cut-found by_bytes nameText value c.loop.invariant (omega arith) (part-read c.read_text.ensures c.in-Ok.is) ([], 0) refl
+    (rw c.in-Ok-pass_under.is at c.pass_under.ensures) 0 refl equal
 
 pub loop-preserved : goal.loop-preserved
 loop-preserved c = let value = under c.args.what in
     let above = against (text_at c.args.img.now c.in-Ok.text) c.args.name.now c.compare_part.ensures c.in-Less.is in
     rw sub-add-eq
-    (cut_on by_bytes nameText value c.loop.invariant (omega arith) (part-read c.read_text.ensures c.in-Ok.is) ([], 0) refl (rw c.in-Ok-pass_under.is at c.pass_under.ensures) 0 refl above)
+    (cut_on by_bytes nameText value c.loop.invariant (omega arith) (part-read c.read_text.ensures c.in-Ok.is) ([], 0) refl
+    (rw c.in-Ok-pass_under.is at c.pass_under.ensures) 0 refl above)
 
 pub returns-after-loop : goal.returns-after-loop
 returns-after-loop c = cut-end by_bytes nameText (under c.args.what) c.loop.invariant (omega arith)
@@ -44,4 +46,5 @@ pub returns-in_default : goal.returns-in_default
 returns-in_default c = cut-unread by_bytes nameText (under c.args.what) c.loop.invariant (omega arith) (part-unread c.read_text.ensures c.in_default.is) refl
 
 pub returns-in_default-pass_under : goal.returns-in_default-pass_under
-returns-in_default-pass_under c = cut-stopped by_bytes nameText (under c.args.what) c.loop.invariant (omega arith) (part-read c.read_text.ensures c.in-Ok.is) refl c.pass_under.ensures c.in_default-pass_under.is
+returns-in_default-pass_under c = cut-stopped by_bytes nameText (under c.args.what) c.loop.invariant (omega arith) (part-read c.read_text.ensures c.in-Ok.is) refl
+    c.pass_under.ensures c.in_default-pass_under.is
