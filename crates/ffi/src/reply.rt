@@ -9,10 +9,10 @@ ghost use Rattle.survey.specs.Verdict.{numbered};
 ghost use Rattle.layers.specs.Answered.{answered};
 ghost use Rattle.ffi.specs.Replies.{yes_no_reply, type_reply, inode_reply, time_out, attr_out, no_attr, attr_reply, no_text, TextReplies, time_given, reply_of};
 
-use wire::text::Part;
 use attrs::node::{FileAttr, FileType};
 use survey::refusal::Refusal;
 use wire::part::part;
+use wire::text::Part;
 use wire::time::Time;
 
 #[repr(C)]

@@ -23,7 +23,7 @@ use Rattle.image.proofs.Holding.{suffix-drop, suffix-rest}
 use Rattle.survey.proofs.Surveyed.{Sections, sections, read_whole, AllHold, if_there, batch_records, records_of, survey-holds}
 use Rattle.rules.specs.Stacks.{over?, stack_on, stack, with_live, layers}
 use Rattle.rules.specs.Starts.{Placed}
-use Rattle.rules.specs.PlacedStacks.{place_after, batches_at, live_at, node_place, record_places, read_at, node_at, on_top, records_on, placed_records, placed_node, unplaced, unplaced_node}
+use Rattle.rules.specs.PlacedStacks.{place_after, node_place, record_places, read_at, node_at, on_top, records_on, placed_records, placed_node, unplaced, unplaced_node}
 use Rattle.image.proofs.OneForm.{base-one, batches-one, store-one, records-one}
 
 -- ---- places

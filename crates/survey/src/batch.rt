@@ -26,7 +26,7 @@ pub struct Batches {
 }
 
 // The stack of an inode that no layer has a record of.
-fn bare_stack(base: Option<usize>) -> InodeLayerStack
+pub fn bare_stack(base: Option<usize>) -> InodeLayerStack
     ensures { Bare base result }
 {
     InodeLayerStack {

@@ -1,8 +1,8 @@
 // One line of the list, and its answer.
-use std::cmp::Ordering;
 use crate::reads;
 use script::line::{bytes, decimal, same, word};
 use script::show;
+use std::cmp::Ordering;
 use std::io;
 use survey::batch::InodeLayerStack;
 use survey::store::read_image;
