@@ -21,7 +21,18 @@ pub struct Labels {
     pub batches: usize,
 }
 
-pub fn label_layers(img: &[u8], ino: u64) -> Result<Labels, Refusal>
+// The labels of an image that may be used; of another one, those of live alone.
+pub fn label_layers(img: &[u8], ino: u64) -> Labels
+    ensures { result.batches ≤ 16 }
+{
+    let live = Labels {
+        layers: [Label { id: 0, place: None }; 17],
+        batches: 0,
+    };
+    read_labels(img, ino).unwrap_or(live)
+}
+
+fn read_labels(img: &[u8], ino: u64) -> Result<Labels, Refusal>
     ensures { IfOk result (λ labels. labels.batches ≤ 16) }
 {
     let sections = open_sections(img)?;

@@ -19,7 +19,6 @@ use std::env::FillError;
 use std::io;
 use std::rt::Env;
 use survey::batch::InodeLayerStack;
-use survey::refusal::Refusal;
 use trace::said::deciding;
 use wire::part::part;
 
@@ -86,24 +85,16 @@ fn explain_image(rt: &HostRuntime, ino: u64, name: &[u8]) -> io::Result<()> {
 }
 
 fn explain(rt: &impl Print, img: &[u8], ino: u64, name: &[u8]) -> io::Result<()> {
-    let (stack, labels) = match read_layers(img, ino, name) {
-        Ok(layers) => layers,
+    let stack = match open_named(img, ino, name) {
+        Ok(stack) => stack,
         Err(refusal) => return write_refusal(rt, refusal),
     };
     write_question(rt, ino, name)?;
+    let labels = label_layers(img, ino);
     let decides = deciding(img, stack, name);
     write_layers(rt, img, stack, name, labels, decides)?;
     write_base(rt, img, stack, name, decides == 0)?;
     write_answer(rt, lookup_child(img, ino, name))
-}
-
-// The inode's stack, and the layers by their names.
-fn read_layers(img: &[u8], ino: u64, name: &[u8]) -> Result<(InodeLayerStack, Labels), Refusal>
-    ensures { IfOk result (λ r. Stacked img.now r.0 × (r.1.batches ≤ 16)) }
-{
-    let stack = open_named(img, ino, name)?;
-    let labels = label_layers(img, ino)?;
-    Ok((stack, labels))
 }
 
 // A line for each layer, live first.

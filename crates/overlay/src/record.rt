@@ -25,7 +25,7 @@ pub struct NewDirectory {
     pub removed: NewList,
 }
 
-// What a delta changes by its kind, afterwards.
+// What a delta changes by its kind, afterwards. No `Option`: the names say what is written, which `Some` and `None` would not.
 #[derive(Clone, Copy)]
 pub enum NewChange {
     // as it stands in the image, from this place to the end of the record
