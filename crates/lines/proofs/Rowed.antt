@@ -46,7 +46,7 @@ pub rows-first : {img : List ℕ} {o : Result (ℕ × ℕ) Fault} {x : ℕ × �
 rows-first {img} {o} {x} a z = λ b end f w.
     let v = rw (base-bytes b) at w in
     let g = value-is (0, 0) (span-reads (number_to last_count refl) (span-front (number_bytes (length b.rows)) (rows_bytes inode node b.rows) v)
-        (omega (arith, f.count)) a) z in
+    (omega (arith, f.count)) a) z in
     let at : x.1 ≡ 0 + length (number_bytes (length b.rows)) = ap (λ (x : ℕ × ℕ). x.1) g in
     record {
       end = end;

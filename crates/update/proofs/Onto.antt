@@ -89,9 +89,10 @@ code_of d = suc (kind_number (changed_kind d.change))
 module _ {img : List ℕ} {at : ℕ} {o : Result (ℕ × ℕ) Fault} (n : Reads img (number_read 7) at o) where
   -- the code of a live tombstone
   dead-code : {after : ℕ} → Spans img at (layer_record.write tombstone) after → (after' : ℕ) × (o ≡ Ok (0, after'))
-  dead-code {after} w =
-      (at + length (number_bytes 0),
-      span-reads (number_to 7 refl) (span-front (number_bytes 0) [] (subst (λ (t : List ℕ). Spans img at t after) dead-bytes w)) (omega arith) n)
+  dead-code {after} w = (
+    at + length (number_bytes 0),
+    span-reads (number_to 7 refl) (span-front (number_bytes 0) [] (subst (λ (t : List ℕ). Spans img at t after) dead-bytes w)) (omega arith) n,
+  )
 
   module _ (after : ℕ) (d : Delta) (w : Spans img at (layer_record.write (delta d)) after) where
     delta-span : Spans img at (number_bytes (code_of d) ++ (fields.write d.fields ++ changed d.change)) after
