@@ -20,7 +20,7 @@
  *       or over the target; rows too few
  *    6  freeze: the queue is at a limit
  *
- * Link with libffi.a; it needs memcpy, memmove and memset, and nothing else. A call needs some tens of KiB of stack (docs/DECISIONS.md,
+ * Link with libffi.a; it needs memcpy, memmove and memset, and nothing else. A call needs at most 10 KiB of stack (docs/DECISIONS.md,
  * "Scratch").
  */
 #ifndef APPENDFS_LAYERS_H
