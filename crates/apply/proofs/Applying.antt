@@ -10,7 +10,7 @@ use Rattle.image.specs.Meaning.{Entries, Names, directory, file, symlink}
 use Rattle.rules.specs.Fold.{given, add_all, remove_all, on_body}
 use Rattle.nodes.specs.Options.{text_at, text_of}
 use Rattle.deltas.specs.Deltas.{attr_of, change_meant}
-use Rattle.wire.specs.declared.text.Part.{Part}
+use Rattle.wire.specs.declared.part.Part.{Part}
 use Rattle.nodes.specs.declared.attr.AttrDelta.{AttrDelta}
 use Rattle.deltas.specs.declared.delta.NodeDelta.{NodeDelta}
 use Rattle.nodes.specs.declared.node.InodeMeta.{InodeMeta}

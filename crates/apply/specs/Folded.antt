@@ -12,7 +12,7 @@ use Rattle.nodes.specs.Options.{text_at}
 use Rattle.nodes.specs.Listed.{list_of}
 use Rattle.nodes.specs.Attrs.{fields_meant}
 use Rattle.deltas.specs.Deltas.{attr_of, change_meant, delta_meant}
-use Rattle.wire.specs.declared.text.Part.{Part}
+use Rattle.wire.specs.declared.part.Part.{Part}
 use Rattle.nodes.specs.declared.attr.AttrDelta.{AttrDelta}
 use Rattle.deltas.specs.declared.delta.NodeDelta.{NodeDelta}
 use Rattle.nodes.specs.declared.node.InodeMeta.{InodeMeta}

@@ -3,18 +3,17 @@ ghost use Rattle.std.specs.Prelude.{◌≡◌};
 ghost use Rattle.apply.specs.Folded.{with_parent, with_size, with_target, FirstMeta, AppliesMeta, FirstKind, AppliesKind, FirstNode, AppliesNode};
 
 use attrs::attr::{epoch, initial_nlink, initial_perm, mode_or};
-use attrs::node::delta_type;
 use deltas::delta::{NodeDelta, attr_delta};
 use merge::source::no_value;
 use nodes::attr::AttrDelta;
 use nodes::node::{InodeMeta, Node, NodeKind};
-use wire::text::Part;
+use wire::part::Part;
 
 // The initial permission and links of a delta's kind; owner, group and times are 0.
 fn initial_meta(delta: NodeDelta) -> InodeMeta
     ensures { FirstMeta delta result }
 {
-    let file_type = delta_type(delta);
+    let file_type = delta.file_type();
     InodeMeta {
         perm: initial_perm(file_type),
         nlink: initial_nlink(file_type),
@@ -32,7 +31,6 @@ fn initial_meta(delta: NodeDelta) -> InodeMeta
 fn apply_to_meta(change: AttrDelta, meta: InodeMeta) -> InodeMeta
     ensures { AppliesMeta change meta result }
 {
-    let xattrs = meta.xattrs;
     InodeMeta {
         perm: mode_or(change.mode, meta.perm),
         nlink: change.nlink.unwrap_or(meta.nlink),
@@ -41,7 +39,7 @@ fn apply_to_meta(change: AttrDelta, meta: InodeMeta) -> InodeMeta
         atime: change.atime.unwrap_or(meta.atime),
         mtime: change.mtime.unwrap_or(meta.mtime),
         ctime: change.ctime.unwrap_or(meta.ctime),
-        xattrs,
+        xattrs: meta.xattrs,
     }
 }
 
@@ -127,11 +125,9 @@ pub fn initial_node(delta: NodeDelta) -> Node
 pub fn apply_to_node(delta: NodeDelta, node: Node) -> Node
     ensures { AppliesNode delta node result }
 {
-    let meta = node.meta;
-    let kind = node.kind;
     let change = attr_delta(delta);
     Node {
-        meta: apply_to_meta(change, meta),
-        kind: apply_to_kind(delta, kind),
+        meta: apply_to_meta(change, node.meta),
+        kind: apply_to_kind(delta, node.kind),
     }
 }

@@ -7,7 +7,7 @@ use native.Mathlib.Omega.{arith}
 use lib.ListN.{length, drop, length-drop}
 use lib.Seq.{length-take-le}
 use Rattle.rules.specs.FileAttrs.{base_size}
-use Rattle.wire.specs.declared.text.Part.{Part}
+use Rattle.wire.specs.declared.part.Part.{Part}
 use Rattle.nodes.specs.declared.node.NodeKind.{NodeKind}
 use Rattle.nodes.specs.declared.node.NodeKind.TheVariants as K
 use Rattle.nodes.specs.Options.{Inside, text_at}

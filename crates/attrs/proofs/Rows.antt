@@ -6,9 +6,9 @@ use Prim.Native.Nat.{ℕ}
 use lib.ListN.{get_or}
 use Rattle.image.specs.Meaning.{Kind, directory, file, symlink, special, pipe, character, block, socket, kind_number}
 use Rattle.rules.specs.Initial.{usual}
-use Rattle.attrs.specs.declared.node.FileType.{FileType}
-use Rattle.attrs.specs.declared.node.FileType.TheVariants as K
-use Rattle.attrs.specs.Meant.{kind_meant}
+use Rattle.image.specs.declared.kind.FileType.{FileType}
+use Rattle.image.specs.declared.kind.FileType.TheVariants as K
+use Rattle.image.specs.FileTypes.{kind_meant}
 
 abbrev row : Kind → List ℕ
 row k = (usual k).perm ∷ (usual k).links ∷ []

@@ -1,21 +1,22 @@
 // The attributes of a node, and what a delta makes of attributes.
-ghost use Rattle.std.specs.Prelude.{ℕ, ◌<◌, ◌≡◌, List};
+ghost use Rattle.std.specs.Prelude.{ℕ, ◌≡◌, List};
 ghost use Rattle.wire.specs.Time.{epoch as epochTime};
-ghost use Rattle.image.specs.Meaning.{kind_number};
 ghost use Rattle.rules.specs.Initial.{usual};
 ghost use Rattle.rules.specs.Fold.{given, cut};
 ghost use Rattle.rules.specs.FileAttrs.{base_attr, base_device, base_perm, base_size, change_device, first_attr};
 ghost use Rattle.nodes.specs.Nodes.{body_meant, node_meant};
 ghost use Rattle.deltas.specs.Deltas.{change_meant};
-ghost use Rattle.attrs.specs.Meant.{kind_meant, attr_meant};
+ghost use Rattle.image.specs.FileTypes.{kind_meant};
+ghost use Rattle.attrs.specs.Meant.{attr_meant};
 ghost use Rattle.attrs.specs.Attrs.{Sized, Applies, LinkIn};
 
-use crate::node::{FileAttr, FileType, delta_type, kind_type};
+use crate::node::FileAttr;
 use deltas::delta::{NodeDelta, attr_delta};
+use image::kind::FileType;
 use nodes::node::{Node, NodeKind};
 use wire::time::Time;
 
-// Initial permission and links: directory, file, symlink, pipe, character, block, socket.
+// Initial permission and links of each type, by its number: directory, file, symlink, pipe, character, block, socket.
 const INITIAL: [[u32; 2]; 7] = [
     [0o755, 2],
     [0o644, 1],
@@ -26,32 +27,17 @@ const INITIAL: [[u32; 2]; 7] = [
     [0o777, 1],
 ];
 
-// The row of a type in the table.
-pub fn type_row(file_type: FileType) -> usize
-    ensures { (result ≡ kind_number (kind_meant file_type)) × (result < 7) }
-{
-    match file_type {
-        FileType::Directory => 0,
-        FileType::RegularFile => 1,
-        FileType::Symlink => 2,
-        FileType::NamedPipe => 3,
-        FileType::CharDevice => 4,
-        FileType::BlockDevice => 5,
-        FileType::Socket => 6,
-    }
-}
-
 pub fn initial_perm(file_type: FileType) -> u32
     ensures { result ≡ (usual (kind_meant file_type)).perm }
 {
-    let row = type_row(file_type);
+    let row = file_type.number() as usize;
     INITIAL[row][0]
 }
 
 pub fn initial_nlink(file_type: FileType) -> u32
     ensures { result ≡ (usual (kind_meant file_type)).links }
 {
-    let row = type_row(file_type);
+    let row = file_type.number() as usize;
     INITIAL[row][1]
 }
 
@@ -79,7 +65,7 @@ pub fn epoch() -> Time
 pub fn initial_attr(delta: NodeDelta, ino: u64) -> FileAttr
     ensures { (img : List ℕ) → attr_meant result ≡ first_attr usual ino (change_meant img delta) }
 {
-    let file_type = delta_type(delta);
+    let file_type = delta.file_type();
     FileAttr {
         ino,
         file_type,
@@ -185,7 +171,7 @@ pub fn node_attr(node: Node, ino: u64) -> FileAttr
     let ctime = meta.ctime;
     FileAttr {
         ino,
-        file_type: kind_type(kind),
+        file_type: kind.file_type(),
         perm: node_perm(kind, meta.perm),
         nlink: meta.nlink,
         uid: meta.uid,

@@ -102,7 +102,9 @@ module _ {img : List ℕ} {b : Base} {ls : List Layer} {w : Walk} (o : Over img 
 
   node-map : node_map ≡ folded_base d ls b
   unfolding get node_of node_map
-  node-map = map-ext by_number node_map (folded_base d ls b) (λ k. nodes-get d k (stacks_left img w) (over-rising o) ∙ ap (node_of d) (over-stacks o k) ∙ sym (base-get d ls b k))
+  node-map =
+      map-ext by_number node_map (folded_base d ls b)
+      (λ k. nodes-get d k (stacks_left img w) (over-rising o) ∙ ap (node_of d) (over-stacks o k) ∙ sym (base-get d ls b k))
 
   nodes-are : nodes_of d (stacks_left img w) ≡ (folded_base d ls b).rows
   unfolding node_map
@@ -115,7 +117,8 @@ unfolding nodes_bytes
 nodes-written prev [] = refl
 nodes-written prev (e ∷ l) = rw (nodes-written (Some e.0) l)
 
-pub base-written : {img : List ℕ} {b : Base} {ls : List Layer} {w : Walk} (o : Over img b ls w) (d : Bool) → base_bytes d (stacks_left img w) ≡ base.write (folded_base d ls b)
+pub base-written : {img : List ℕ} {b : Base} {ls : List Layer} {w : Walk} (o : Over img b ls w) (d : Bool)
+    → base_bytes d (stacks_left img w) ≡ base.write (folded_base d ls b)
 base-written {b = b} {ls} o d = rw (nodes-are o d) (rw (nodes-written None (folded_base d ls b).rows))
 
 -- ---- a number holds their count

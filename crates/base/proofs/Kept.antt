@@ -1,103 +1,124 @@
--- Whether a node stays, told from its first numbers.
+-- Whether a snapshot keeps the node at a place, told by its first numbers.
 -- Assumes nothing.
 use Rattle.std.specs.Prelude.{Result, Ok, Err}
 use Rattle.std.specs.Result.{result_unwrap_or}
 use mathlib.Core.Path.{◌≡◌, refl, sym, ap, ◌∙◌}
-use mathlib.Core.Bool.{Bool, true, false}
+use mathlib.Core.Bool.{Bool, true, false, not}
+use lib.Dec.{eqb}
 use mathlib.Core.List.{List, ◌++◌, append_assoc}
-use Prim.Native.Nat.{ℕ, ◌≤◌}
-use native.Mathlib.Omega.{arith}
-use lib.Dec.{eqb, leb}
+use Prim.Native.Nat.{ℕ}
+use denote.Enum.Bare.{sameb}
 use lib.ListN.{drop}
 use borrow.Author.Tests.{ne_eqb}
 use Rattle.wire.specs.declared.fault.Fault.{Fault}
 use Rattle.wire.specs.Parse.{got, never-got}
 use Rattle.wire.specs.Combinators.{◌then◌}
-use Rattle.wire.specs.Number.{edge, number_bytes, number_read, number-back}
-use Rattle.wire.specs.Reading.{Reads}
+use Rattle.wire.specs.Lists.{last_count}
+use Rattle.wire.specs.Number.{number_read}
+use Rattle.wire.specs.Reading.{Reads, meant}
 use Rattle.image.specs.Meaning as M
-use Rattle.image.specs.Meaning.{Kind, directory, file, symlink, special, pipe, character, block, socket, kind_number, kind_of}
+use Rattle.image.specs.Meaning.{Kind, kind_of}
+use Rattle.image.specs.KindLayout.{kind}
+use Rattle.image.specs.FileTypes.{kind_meant}
 use Rattle.image.specs.FieldLayout.{word, moment, attributes}
-use Rattle.image.specs.KindLayout.{kind, kind-small}
 use Rattle.image.specs.NodeLayout.{meta_parts, meta, body_part, body_part_of, node}
+use Rattle.image.proofs.OneForm.{node-one}
+use Rattle.image.specs.contracts.kind.FileType as files
+use Rattle.image.specs.declared.kind.FileType.{FileType}
+use Rattle.image.specs.declared.kind.FileType.TheVariants as F
 use Rattle.rules.specs.Queue.{is_directory}
 use Rattle.base.specs.Nodes.{KeptAt, StaysAt}
 use Rattle.base.proofs.Sifting.{sift-by}
-use Rattle.image.proofs.OneForm.{node-one}
-
--- a number that stands at a place is read, and what follows it stands after it
-module _ {img : List ℕ} {most at : ℕ} (e : leb most edge ≡ true) (n : ℕ) (s : List ℕ) (l : n ≤ most) (h : drop at img ≡ number_bytes n ++ s) where
-  number-stands : {v q : ℕ} → Reads img (number_read most) at (Ok (v, q)) → (v ≡ n) × (drop q img ≡ s)
-  number-stands {v} {q} r =
-      let z : got n s ≡ got v (drop q img) = sym (number-back most e n s l) ∙ (rw h at r.same) in
-      let y : v ≡ n = cc in
-      let x : drop q img ≡ s = cc in
-      (y, x)
-
-  number-there : {A : Type 0} {f : Fault} → Reads img (number_read most) at (Err f) → A
-  number-there r = never-got (sym (rw h at r.same) ∙ number-back most e n s l)
-
--- owner, group, times and attributes, what the kind has, and what follows the node
-abbrev after_links : M.Node → List ℕ → List ℕ
-after_links m t = ((word then word then moment then moment then moment then attributes).write (meta_parts m.meta).1.1 ++ (body_part (kind_of m.body)).write (body_part_of m.body)) ++ t
 
 -- a node starts with its kind, permission and links
+record Starts (s : List ℕ) (m : M.Node) : Type 0 where
+  pub after_kind : List ℕ
+  pub after_perm : List ℕ
+  pub after_links : List ℕ
+  pub kind_is : kind.read s ≡ got (kind_of m.body) after_kind
+  pub perm_is : number_read last_count after_kind ≡ got m.meta.perm after_perm
+  pub links_is : number_read last_count after_perm ≡ got m.meta.links after_links
+
+-- owner, group, times and attributes, what the kind has, and what follows the node
+abbrev rest_of : M.Node → List ℕ → List ℕ
+rest_of m t =
+    let rest = (word then word then moment then moment then moment then attributes).write (meta_parts m.meta).1.1 in
+    (rest ++ (body_part (kind_of m.body)).write (body_part_of m.body)) ++ t
+
 node-starts : (m : M.Node) (t : List ℕ)
-    → node.write m ++ t ≡ number_bytes (kind_number (kind_of m.body)) ++ (number_bytes m.meta.perm ++ (number_bytes m.meta.links ++ after_links m t))
-unfolding node kind meta
+    → node.write m ++ t ≡ kind.write (kind_of m.body) ++ (word.write m.meta.perm ++ (word.write m.meta.links ++ rest_of m t))
+unfolding node meta
 node-starts m t = simp append_assoc
 
-directory-number : (k : Kind) → is_directory k ≡ eqb (kind_number k) 0
-directory-number directory = refl
-directory-number file = refl
-directory-number symlink = refl
-directory-number (special pipe) = refl
-directory-number (special character) = refl
-directory-number (special block) = refl
-directory-number (special socket) = refl
+starts : (s : List ℕ) (m : M.Node) (t : List ℕ) → node.read s ≡ got m t → Starts s m
+unfolding node kind
+starts s m t e =
+    let f = node-one.forth s m t e in
+    let links = word.write m.meta.links ++ rest_of m t in
+    let perm = word.write m.meta.perm ++ links in
+    record {
+      after_kind = perm;
+      after_perm = links;
+      after_links = rest_of m t;
+      kind_is = rw (f.0, node-starts) (kind.back (kind_of m.body) perm tt);
+      perm_is = word.back m.meta.perm links f.1.meta.perm;
+      links_is = word.back m.meta.links (rest_of m t) f.1.meta.links;
+    }
 
-module _ (img : List ℕ) (p : ℕ) where
-  -- what stands at the place of a node
-  starts : (m : M.Node) (t : List ℕ) → node.read (drop p img) ≡ got m t
-      → drop p img ≡ number_bytes (kind_number (kind_of m.body)) ++ (number_bytes m.meta.perm ++ (number_bytes m.meta.links ++ after_links m t))
-  starts m t e = (node-one.forth (drop p img) m t e).0 ∙ node-starts m t
+is-directory : (t : FileType) → sameb files.the_type t F.Directory ≡ is_directory (kind_meant t)
+is-directory F.Directory = refl
+is-directory F.RegularFile = refl
+is-directory F.Symlink = refl
+is-directory F.NamedPipe = refl
+is-directory F.CharDevice = refl
+is-directory F.BlockDevice = refl
+is-directory F.Socket = refl
 
-  perm-small : (m : M.Node) (t : List ℕ) → node.read (drop p img) ≡ got m t → m.meta.perm ≤ 4294967295
-  unfolding node
-  perm-small m t e = let f = (node-one.forth (drop p img) m t e).1.meta.perm in omega arith
+module _ {img : List ℕ} {p : ℕ} {o : Result (FileType × ℕ) Fault} (h : Reads img kind.read p (meant kind_meant o)) where
+  pub kept-unkind : {f : Fault} → o ≡ Err f → {r : Result Bool Fault} → KeptAt img p r
+  kept-unkind d = let g = rw d at h in record { is = λ m t e. never-got (sym g.same ∙ (starts (drop p img) m t e).kind_is) }
 
-  links-small : (m : M.Node) (t : List ℕ) → node.read (drop p img) ≡ got m t → m.meta.links ≤ 4294967295
-  unfolding node
-  links-small m t e = let f = (node-one.forth (drop p img) m t e).1.meta.links in omega arith
+  module _ {k : FileType} {a : ℕ} (d : o ≡ Ok (k, a)) where
+    first : {m : M.Node} (x : Starts (drop p img) m) → (kind_meant k ≡ kind_of m.body) × (x.after_kind ≡ drop a img)
+    first {m} x =
+        let g = rw d at h in
+        let z = sym x.kind_is ∙ g.same in
+        let i : kind_meant k ≡ kind_of m.body = cc in
+        let j : x.after_kind ≡ drop a img = cc in
+        (i, j)
 
-module _ {img : List ℕ} {p : ℕ} where
-  pub kind-there : {f : Fault} {r : Result Bool Fault} → Reads img (number_read 6) p (Err f) → KeptAt img p r
-  kind-there r1 = record { is = λ m t e. number-there refl _ _ (kind-small (kind_of m.body)) (starts img p m t e) r1 }
+    module _ {u : Result (ℕ × ℕ) Fault} (h2 : Reads img (number_read last_count) a u) where
+      pub kept-unperm : {f : Fault} → u ≡ Err f → {r : Result Bool Fault} → KeptAt img p r
+      kept-unperm e = let g = rw e at h2 in
+          record { is = λ m t w. let x = starts (drop p img) m t w in never-got (sym g.same ∙ (rw (first x).1 at x.perm_is)) }
 
-  module _ {k c1 : ℕ} (r1 : Reads img (number_read 6) p (Ok (k, c1))) where
-    first : (m : M.Node) (t : List ℕ) → node.read (drop p img) ≡ got m t
-        → (k ≡ kind_number (kind_of m.body)) × (drop c1 img ≡ number_bytes m.meta.perm ++ (number_bytes m.meta.links ++ after_links m t))
-    first m t e = number-stands refl _ _ (kind-small (kind_of m.body)) (starts img p m t e) r1
+      module _ {perm b : ℕ} (d2 : u ≡ Ok (perm, b)) where
+        second : {m : M.Node} (x : Starts (drop p img) m) → x.after_perm ≡ drop b img
+        second {m} x =
+            let g = rw d2 at h2 in
+            let y = (first x).1 in
+            let z = sym (rw y at x.perm_is) ∙ g.same in
+            cc
 
-    pub perm-there : {f : Fault} {r : Result Bool Fault} → Reads img (number_read 4294967295) c1 (Err f) → KeptAt img p r
-    perm-there r2 = record { is = λ m t e. number-there refl _ _ (perm-small img p m t e) (first m t e).1 r2 }
+        module _ {v : Result (ℕ × ℕ) Fault} (h3 : Reads img (number_read last_count) b v) where
+          pub kept-unlinked : {f : Fault} → v ≡ Err f → {r : Result Bool Fault} → KeptAt img p r
+          kept-unlinked e = let g = rw e at h3 in
+              record { is = λ m t w. let x = starts (drop p img) m t w in never-got (sym g.same ∙ (rw (second x) at x.links_is)) }
 
-    module _ {w c2 : ℕ} (r2 : Reads img (number_read 4294967295) c1 (Ok (w, c2))) where
-      second : (m : M.Node) (t : List ℕ) → node.read (drop p img) ≡ got m t → drop c2 img ≡ number_bytes m.meta.links ++ after_links m t
-      second m t e = (number-stands refl _ _ (perm-small img p m t e) (first m t e).1 r2).1
+          module _ {links c : ℕ} (d3 : v ≡ Ok (links, c)) where
+            third : {m : M.Node} → Starts (drop p img) m → links ≡ m.meta.links
+            third {m} x =
+                let g = rw d3 at h3 in
+                let z = sym (rw (second x) at x.links_is) ∙ g.same in
+                cc
 
-      pub links-there : {f : Fault} {r : Result Bool Fault} → Reads img (number_read 4294967295) c2 (Err f) → KeptAt img p r
-      links-there r3 = record { is = λ m t e. number-there refl _ _ (links-small img p m t e) (second m t e) r3 }
+            pub kept-linked : (links ≡ 0 → ⊥) → KeptAt img p (Ok (not (eqb links 0)))
+            kept-linked z = record { is = λ m t w. let x = starts (drop p img) m t w in rw (← (third x), ne_eqb links 0 z) }
 
-      module _ {n c3 : ℕ} (r3 : Reads img (number_read 4294967295) c2 (Ok (n, c3))) where
-        links-are : (m : M.Node) (t : List ℕ) → node.read (drop p img) ≡ got m t → n ≡ m.meta.links
-        links-are m t e = (number-stands refl _ _ (links-small img p m t e) (second m t e) r3).0
-
-        pub kept-linked : (n ≡ 0 → ⊥) → KeptAt img p (Ok true)
-        kept-linked z = record { is = λ m t e. rw (← (links-are m t e), ne_eqb n 0 z) }
-
-        pub kept-directory : n ≡ 0 → KeptAt img p (Ok (eqb k 0))
-        kept-directory z = record { is = λ m t e. rw (← (links-are m t e), z, directory-number (kind_of m.body), ← (first m t e).0) }
+            pub kept-directory : links ≡ 0 → {r : Bool} → r ≡ sameb files.the_type k F.Directory → KeptAt img p (Ok r)
+            kept-directory z e = record {
+              is = λ m t w. let x = starts (drop p img) m t w in rw (← (third x), z, e, is-directory, (first x).0);
+            }
 
 pub stays-told : {img : List ℕ} {p : ℕ} {d r : Bool} {o : Result Bool Fault} → d ≡ true → KeptAt img p o → r ≡ result_unwrap_or o true → StaysAt img p d r
 stays-told {r = r} x k h = record { says = λ m t e. rw x (sift-by r m (h ∙ ap (λ (o : Result Bool Fault). result_unwrap_or o true) (k.is m t e))) }

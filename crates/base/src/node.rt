@@ -1,11 +1,7 @@
 // The nodes that a walk over the base and layers gives, each stack folded, one after the other by rising inode.
 ghost use Rattle.std.specs.Prelude.{List, ◌≡◌, ℕ, ◌<◌};
 ghost use Rattle.wire.specs.Number.{edge};
-ghost use Rattle.image.specs.Meaning.{kind_of};
-ghost use Rattle.rules.specs.Queue.{is_directory};
-ghost use Rattle.nodes.specs.Nodes.{body_meant};
 ghost use Rattle.rules.specs.PlacedStacks.{node_at, unplaced_node};
-ghost use Rattle.stack.specs.Stacks.{Stacked};
 ghost use Rattle.fold.specs.FoldedNodes.{folded_in};
 ghost use Rattle.walk.specs.Walks.{NodeEnds, stacks_left};
 ghost use Rattle.base.specs.Nodes.{Keeps, Stays, KeptAt, StaysAt, kept_if, PutsRow, nodes_of, PutsNodes, Few};
@@ -13,31 +9,18 @@ ghost use Rattle.base.specs.Nodes.{Keeps, Stays, KeptAt, StaysAt, kept_if, PutsR
 use change::copy::put_between;
 use fold::folded::{folded_node, put_folded};
 use image::field::LAST_WORD;
-use nodes::node::{Node, NodeKind};
-use survey::batch::InodeLayerStack;
-use walk::walk::{Walk, next_stack};
+use image::kind::{FileType, read_file_type};
+use nodes::node::Node;
+use stack::stack::Stack;
+use walk::walk::{Step, Walk, next_stack};
 use wire::fault::Fault;
 use wire::number::{put_number, read_number};
-
-fn is_directory(kind: NodeKind) -> bool
-    ensures { (img : List ℕ) → result ≡ is_directory (kind_of (body_meant img kind)) }
-{
-    match kind {
-        NodeKind::Directory { .. } => true,
-        _ => false,
-    }
-}
 
 // Whether a snapshot keeps the node: it drops non-directories with 0 links.
 fn is_kept(node: Node) -> bool
     ensures { Keeps node result }
 {
-    let meta = node.meta;
-    let kind = node.kind;
-    if meta.nlink != 0 {
-        return true;
-    }
-    is_directory(kind)
+    node.meta.nlink != 0 || node.kind.file_type() == FileType::Directory
 }
 
 // Whether the node stays, where some are dropped and where none are.
@@ -61,13 +44,10 @@ pub struct Nodes {
 fn kept_at(img: &[u8], place: usize) -> Result<bool, Fault>
     ensures { KeptAt img.now place result }
 {
-    let (kind, permitted) = read_number(img, place, 6)?;
+    let (kind, permitted) = read_file_type(img, place)?;
     let (_, linked) = read_number(img, permitted, LAST_WORD)?;
     let (links, _) = read_number(img, linked, LAST_WORD)?;
-    if links != 0 {
-        return Ok(true);
-    }
-    Ok(kind == 0)
+    Ok(links != 0 || kind == FileType::Directory)
 }
 
 // Whether the node at a place stays, where some are dropped and where none are.
@@ -104,24 +84,16 @@ fn put_base_node(
 }
 
 // Writes the inode and the node that fold makes of its stack, if there is one and it stays.
-fn put_folded_node(
-    buf: &mut [u8],
-    so_far: Nodes,
-    img: &[u8],
-    inode: u64,
-    stack: InodeLayerStack,
-    drops: bool,
-) -> Nodes
-    requires { Stacked img.now stack × (so_far.count < edge) }
-    ensures { PutsRow buf.old so_far inode (kept_if drops (folded_in img.now stack)) result buf.new }
+fn put_folded_node(buf: &mut [u8], so_far: Nodes, inode: u64, stack: Stack, drops: bool) -> Nodes
+    requires { so_far.count < edge }
+    ensures { PutsRow buf.old so_far inode (kept_if drops (folded_in stack.entry)) result buf.new }
 {
-    let Some(folded) = folded_node(img, stack) else {
+    let Some(folded) = folded_node(stack) else {
         return so_far;
     };
-    let node = folded.node;
-    if stays(node, drops) {
+    if stays(folded.node, drops) {
         let place = put_number(buf, so_far.end, inode);
-        let end = put_folded(buf, place, img, stack, folded);
+        let end = put_folded(buf, place, stack, folded);
         return Nodes {
             end,
             count: so_far.count + 1,
@@ -130,26 +102,19 @@ fn put_folded_node(
     so_far
 }
 
-// The same. A base node that no record is over is copied, up to its `end`.
-fn put_node_of(
-    buf: &mut [u8],
-    so_far: Nodes,
-    img: &[u8],
-    inode: u64,
-    stack: InodeLayerStack,
-    end: usize,
-    drops: bool,
-) -> Nodes
-    requires { Stacked img.now stack × NodeEnds img.now stack.base end × (so_far.count < edge) }
-    ensures { PutsRow buf.old so_far inode (kept_if drops (folded_in img.now stack)) result buf.new }
+// The same of a step of a walk. A base node that no record is over is copied.
+fn put_node_of(buf: &mut [u8], so_far: Nodes, step: Step, drops: bool) -> Nodes
+    requires { NodeEnds step.stack.img.now step.stack.places.base step.end × (so_far.count < edge) }
+    ensures { PutsRow buf.old so_far step.entry.inode (kept_if drops (folded_in step.entry.stack)) result buf.new }
 {
-    let base = stack.base;
-    if stack.count == 0 {
+    let stack = step.stack;
+    let base = stack.places.base;
+    if stack.places.count == 0 {
         if let Some(place) = base {
-            return put_base_node(buf, so_far, img, inode, place, end, drops);
+            return put_base_node(buf, so_far, stack.img, step.inode, place, step.end, drops);
         }
     }
-    put_folded_node(buf, so_far, img, inode, stack, drops)
+    put_folded_node(buf, so_far, step.inode, stack, drops)
 }
 
 // Writes the nodes of the stacks that the walk has left.
@@ -157,14 +122,10 @@ pub fn put_nodes(buf: &mut [u8], at: usize, img: &[u8], walk: Walk, drops: bool)
     requires { Few img.now walk }
     ensures { PutsNodes buf.old at (nodes_of drops (stacks_left img.now walk)) result buf.new }
 {
-    let mut runs = walk.runs;
-    let count = walk.count;
+    let mut rest = walk;
     let mut nodes = Nodes { end: at, count: 0 };
-    let mut step = next_stack(img, &mut runs, count);
-    while step.more {
-        let stack = step.stack;
-        nodes = put_node_of(buf, nodes, img, step.inode, stack, step.end, drops);
-        step = next_stack(img, &mut runs, count);
+    while let Some(step) = next_stack(img, &mut rest) {
+        nodes = put_node_of(buf, nodes, step, drops);
     }
     nodes
 }

@@ -89,4 +89,7 @@ pub pass-back : (b : Batch) (t : List ℕ) → FitsBatch b → pass_batch (batch
 unfolding layer_record
 pass-back b t h =
     ap pass_batch (append_assoc (batch_head.write (head_of b)) (records.write b.records) t)
-    ∙ rw (batch_head.back (head_of b) (records.write b.records ++ t) (h.id, (h.bytes, (h.operations, (h.reason, h.committed)))), records.back b.records t h.records)
+    ∙ rw (
+      batch_head.back (head_of b) (records.write b.records ++ t) (h.id, (h.bytes, (h.operations, (h.reason, h.committed)))),
+      records.back b.records t h.records,
+    )

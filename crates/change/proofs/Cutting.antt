@@ -64,7 +64,8 @@ module _ {K A : Type 0} (O : Order K) (key : Codec K) (value : Codec A) where
     fit : Fit rest
 
   abbrev pub Cutting : List ℕ → ℕ → ℕ → K → ℕ → ℕ → Type 0
-  Cutting img first n i here left = (l : List (K × A)) (to : ℕ) → n ≡ length l → Fit l → Spans img first (bytes_of l) to → (rest : List (K × A)) × Come img first i here left l to rest
+  Cutting img first n i here left = (l : List (K × A)) (to : ℕ) → n ≡ length l → Fit l → Spans img first (bytes_of l) to
+      → (rest : List (K × A)) × Come img first i here left l to rest
 
   -- no bytes
   nothing : {img : List ℕ} {n : ℕ} → n ≤ length img → Spans img n (bytes_of []) n
@@ -96,13 +97,15 @@ module _ {K A : Type 0} (O : Order K) (key : Codec K) (value : Codec A) where
     unfolding rows_below row_here rows_above
     cut-end h = record { from = refl; counts = refl; cut = λ l to e f s. go l to e (w l to e f s).0 (w l to e f s).1 }
       where
-        go : (l : List (K × A)) (to : ℕ) → n ≡ length l → (rest : List (K × A)) → Come img first i here left l to rest → CutIs O key value img i l to (no_row n first here)
+        go : (l : List (K × A)) (to : ℕ) → n ≡ length l → (rest : List (K × A)) → Come img first i here left l to rest
+            → CutIs O key value img i l to (no_row n first here)
         go l to e [] c = ended e c refl refl refl
         go l to e (r ∷ m) c = absurd (omega (arith, c.many))
 
   -- ---- the row that the loop is at
 
-  module _ {img : List ℕ} {first : ℕ} {i : K} {here left : ℕ} {l : List (K × A)} {to : ℕ} {r : K × A} {m : List (K × A)} (c : Come img first i here left l to (r ∷ m)) where
+  module _ {img : List ℕ} {first : ℕ} {i : K} {here left : ℕ} {l : List (K × A)} {to : ℕ} {r : K × A}
+      {m : List (K × A)} (c : Come img first i here left l to (r ∷ m)) where
     abbrev key_bytes : List ℕ
     key_bytes = key.write r.0
 
@@ -156,7 +159,8 @@ module _ {K A : Type 0} (O : Order K) (key : Codec K) (value : Codec A) where
     unfolding rows_below row_here rows_above
     cut-over h = record { from = refl; counts = refl; cut = λ l to e f s. go l to e (w l to e f s).0 (w l to e f s).1 }
       where
-        go : (l : List (K × A)) (to : ℕ) → n ≡ length l → (rest : List (K × A)) → Come img first i here left l to rest → CutIs O key value img i l to (no_row n first here)
+        go : (l : List (K × A)) (to : ℕ) → n ≡ length l → (rest : List (K × A)) → Come img first i here left l to rest
+            → CutIs O key value img i l to (no_row n first here)
         go l to e [] c = absurd (omega (arith, c.many))
         go l to e (r ∷ m) c =
             let v : O.cmp i r.0 ≡ Less = rw (← (key-is c a d z)) h in
@@ -197,7 +201,8 @@ module _ {K A : Type 0} (O : Order K) (key : Codec K) (value : Codec A) where
                   below = c.below ∙ rw v (sym (append_assoc c.passed (r ∷ []) (rows_below O i m)));
                   own = c.own ∙ rw v;
                   above = c.above ∙ rw v;
-                  before = rw (rows_append O key value c.passed (r ∷ []), append-nil (key_bytes c ++ record_bytes c)) (span-both c.before (row-to c a d z p dy y));
+                  before = rw (rows_append O key value c.passed (r ∷ []), append-nil (key_bytes c ++ record_bytes c))
+                      (span-both c.before (row-to c a d z p dy y));
                   behind = rest-to c a d z p dy y;
                   many = omega (arith, c.many);
                   fit = c.fit.1;
@@ -206,7 +211,8 @@ module _ {K A : Type 0} (O : Order K) (key : Codec K) (value : Codec A) where
 
   -- ---- the whole list
 
-  pub cut_list_lem : {img : List ℕ} {at : ℕ} {i : K} {r : Cut} {o : Result (ℕ × ℕ) Fault} {x : ℕ × ℕ} → Reads img (number_read last_count) at o → x ≡ result_unwrap_or o (0, 0)
+  pub cut_list_lem : {img : List ℕ} {at : ℕ} {i : K} {r : Cut} {o : Result (ℕ × ℕ) Fault} {x : ℕ × ℕ}
+      → Reads img (number_read last_count) at o → x ≡ result_unwrap_or o (0, 0)
       → Cuts O key value img x.1 x.0 i r → CutsList O key value img at i r
   cut_list_lem {img} {at} {i} {r} {o} {x} a z c = record { few = rw c.counts (few o a z); cut = go }
     where
@@ -291,12 +297,15 @@ put_same {K} {A} O k o m e = map-ext O (put O k o m) m (λ j. get-put O j k o m 
 
 -- ---- a row that cannot be read does not stand there
 
-module _ {K A : Type 0} (O : Order K) (key : Codec K) (value : Codec A) {img : List ℕ} {first n : ℕ} {i : K} {here left : ℕ} (w : Cutting O key value img first n i here left)
+module _ {K A : Type 0} (O : Order K) (key : Codec K) (value : Codec A) {img : List ℕ} {first n : ℕ} {i : K}
+    {here left : ℕ} (w : Cutting O key value img first n i here left)
     (some_left : 0 < left) {o : Result (K × ℕ) Fault} (a : Reads img key.read here o) where
-  nowhere : ((l rest : List (K × A)) (to : ℕ) (r : K × A) → Come O key value img first i here left l to (r ∷ rest) → ⊥) → Cuts O key value img first n i (no_row O key value n first here)
+  nowhere : ((l rest : List (K × A)) (to : ℕ) (r : K × A) → Come O key value img first i here left l to (r ∷ rest) → ⊥)
+      → Cuts O key value img first n i (no_row O key value n first here)
   nowhere h = record { from = refl; counts = refl; cut = λ l to e f s. go l to (w l to e f s).0 (w l to e f s).1 }
     where
-      go : (l : List (K × A)) (to : ℕ) (rest : List (K × A)) → Come O key value img first i here left l to rest → CutIs O key value img i l to (no_row O key value n first here)
+      go : (l : List (K × A)) (to : ℕ) (rest : List (K × A)) → Come O key value img first i here left l to rest
+          → CutIs O key value img i l to (no_row O key value n first here)
       go l to [] c = absurd (omega (arith, c.many))
       go l to (r ∷ m) c = absurd (h l m to r c)
 
@@ -308,7 +317,8 @@ module _ {K A : Type 0} (O : Order K) (key : Codec K) (value : Codec A) {img : L
   cut-unread d = nowhere (λ l m to r c. never-err d (span-reads key (span-front (key.write r.0) (value.write r.1) (row-span O key value c)) c.fit.0.0 a))
 
   -- what stands under it
-  pub cut-stopped : {x : K × ℕ} {f : Fault} {u : Result ℕ Fault} → o ≡ Ok x → Ends img value.read x.1 u → u ≡ Err f → Cuts O key value img first n i (no_row O key value n first here)
+  pub cut-stopped : {x : K × ℕ} {f : Fault} {u : Result ℕ Fault} → o ≡ Ok x → Ends img value.read x.1 u → u ≡ Err f
+      → Cuts O key value img first n i (no_row O key value n first here)
   cut-stopped {x} e p d = nowhere (λ l m to r c.
       let z : x ≡ result_unwrap_or o x = rw e in
       let b = span-back (key.write r.0) (value.write r.1) (row-span O key value c) in

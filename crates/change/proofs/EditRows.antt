@@ -106,7 +106,8 @@ module _ {K : Type 0} (O : Order K) where
     set-edit k o es (f ∷ l) u r = go (O.cmp k f.0) refl (set-edit k o es l u r.1)
       where
         go : (c : Ordering) → O.cmp k f.0 ≡ c → set O k o (edit_rows O es l) ≡ rows_below O k l ++ (row_if O k o ++ edit_rows O es (rows_above O k l))
-            → set O k o (edit_rows O es (f ∷ l)) ≡ three c [] [] (f ∷ rows_below O k l) ++ (row_if O k o ++ edit_rows O es (three c (f ∷ l) l (rows_above O k l)))
+            → set O k o (edit_rows O es (f ∷ l)) ≡ three c [] [] (f ∷ rows_below O k l)
+            ++ (row_if O k o ++ edit_rows O es (three c (f ∷ l) l (rows_above O k l)))
         go Less h i = set-under k o (edit_rows O es (f ∷ l)) (under-edit k es (f ∷ l) u (h, under-below O k f.0 l h r.0))
         go Equal h i =
             let z : k ≡ f.0 = O.same k f.0 h in

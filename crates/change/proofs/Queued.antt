@@ -21,7 +21,8 @@ module _ {img : List ℕ} {p : Sections} {s : Store} (w : Stands img p s) where
 
   module _ {o : Result (ℕ × ℕ) Fault} (a : Reads img (number_read 16) p.batches o) where
     pub stands-counted : o ≡ Ok (length s.batches, p.batches + length (number_bytes (length s.batches)))
-    stands-counted = span-reads (number_to 16 refl) (span-front (number_bytes (length s.batches)) (queue_bytes s.batches) queue-span) (stands-fits w).batches.count a
+    stands-counted = span-reads (number_to 16 refl) (span-front (number_bytes (length s.batches)) (queue_bytes s.batches) queue-span)
+        (stands-fits w).batches.count a
 
     module _ {x : ℕ × ℕ} (d : o ≡ Ok x) where
       counted : x ≡ (length s.batches, p.batches + length (number_bytes (length s.batches)))

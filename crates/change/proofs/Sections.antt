@@ -22,7 +22,6 @@ use Rattle.survey.specs.Survey.{Surveys}
 use Rattle.image.specs.RoundTrip.{read_image, write_image}
 use Rattle.image.proofs.RoundTrip.{read-then-write, read_fits}
 use Rattle.survey.specs.declared.store.Survey.{Survey}
-use Rattle.survey.specs.declared.batch.InodeLayerStack.{InodeLayerStack}
 use Rattle.survey.specs.declared.refusal.Refusal.{Refusal}
 use Rattle.survey.specs.Verdict.{Judges}
 use Rattle.wire.proofs.Readers.{handed}
@@ -30,6 +29,7 @@ use Rattle.rules.proofs.Asked.{verdict-fine}
 use Rattle.writers.specs.Tails.{tail}
 use Rattle.change.specs.Sections.{between, Spans, tail_of, Stands, Opens, OpensInode}
 use Rattle.change.specs.declared.section.Sections.{Sections}
+use Rattle.stack.specs.declared.stack.Stack.{Stack}
 use Rattle.stack.proofs.Opening.{opens-stack}
 
 -- ---- bytes that stand in an image
@@ -79,7 +79,8 @@ pub same_Ok : {A E : Type 0} {x y : A} → ◌≡◌ {A = Result A E} (Ok x) (Ok
 same_Ok {A} {E} {x} e = ap (λ (o : Result A E). result_unwrap_or o x) e
 
 -- what a reader finds where this was to be read
-pub reads-got : {A : Type 0} (img : List ℕ) {p : List ℕ → Parsed A} {n q : ℕ} {a : A} {o : Result (A × ℕ) Fault} → p (drop n img) ≡ got a (drop q img) → q ≤ length img
+pub reads-got : {A : Type 0} (img : List ℕ) {p : List ℕ → Parsed A} {n q : ℕ} {a : A} {o : Result (A × ℕ) Fault}
+    → p (drop n img) ≡ got a (drop q img) → q ≤ length img
     → Reads img p n o → o ≡ Ok (a, q)
 reads-got {A} img {q = q} {a} {o} d h r = go o (sym d ∙ r.same) r.within
   where
@@ -174,18 +175,18 @@ stands-fits {img} {s = s} w = read_fits img s w.is
 -- ---- the one pass
 
 module _ {img : List ℕ} {i : ℕ} {o : Result Survey Refusal} (j : Judges img i o) where
-  pub inode-opened : {r : Survey} → o ≡ Ok r
-      → OpensInode img i (Ok (record { batches = r.batches; live = r.live; tail = r.tail }, r.stack))
-  inode-opened d =
-      let k = rw d at j in
-      let s = verdict-fine img (sym k.verdict) in
-      record { verdict = k.verdict; sections = (s.0, survey-stands k.survey.surveys s.2 s.1); stack = (opens-stack j d).stack }
+  pub inode-opened : {r : Survey} → o ≡ Ok r → (k : Stack) → k.img.now ≡ img → k.places ≡ r.stack
+      → OpensInode img i (Ok (record { batches = r.batches; live = r.live; tail = r.tail }, k))
+  inode-opened d k a b =
+      let g = rw d at j in
+      let s = verdict-fine img (sym g.verdict) in
+      record { verdict = g.verdict; sections = (s.0, survey-stands g.survey.surveys s.2 s.1); stack = (opens-stack j d k a b).stack }
 
-  pub inode-unopened : {e : Refusal} {r : Result (Sections × InodeLayerStack) Refusal} → o ≡ Err e → r ≡ Err e → OpensInode img i r
+  pub inode-unopened : {e : Refusal} {r : Result (Sections × Stack) Refusal} → o ≡ Err e → r ≡ Err e → OpensInode img i r
   inode-unopened d z = let k = rw d at j in rw z (record { verdict = k.verdict; sections = tt; stack = tt })
 
-module _ {img : List ℕ} {i : ℕ} {o : Result (Sections × InodeLayerStack) Refusal} (j : OpensInode img i o) where
-  pub sections-opened : {p : Sections} {k : InodeLayerStack} → o ≡ Ok (p, k) → Opens img (Ok p)
+module _ {img : List ℕ} {i : ℕ} {o : Result (Sections × Stack) Refusal} (j : OpensInode img i o) where
+  pub sections-opened : {p : Sections} {k : Stack} → o ≡ Ok (p, k) → Opens img (Ok p)
   sections-opened d = let k = rw d at j in record { verdict = k.verdict; sections = k.sections }
 
   pub sections-unopened : {e : Refusal} {r : Result Sections Refusal} → o ≡ Err e → r ≡ Err e → Opens img r

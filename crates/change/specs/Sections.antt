@@ -9,11 +9,11 @@ use Rattle.image.specs.RecordLayout.{records}
 use Rattle.image.specs.StoreLayout.{batches}
 use Rattle.image.specs.RoundTrip.{read_image}
 use Rattle.survey.specs.Verdict.{verdict_of}
-use Rattle.survey.specs.declared.batch.InodeLayerStack.{InodeLayerStack}
 use Rattle.survey.specs.declared.refusal.Refusal.{Refusal}
 use Rattle.writers.specs.Tails.{TailParts, tail}
 use Rattle.change.specs.declared.section.Sections.{Sections}
-use Rattle.stack.specs.Stacks.{StackOf}
+use Rattle.stack.specs.InStack.{StackOf}
+use Rattle.stack.specs.declared.stack.Stack.{Stack}
 
 -- the bytes from one place to another
 abbrev pub between : List ℕ → ℕ → ℕ → List ℕ
@@ -44,7 +44,7 @@ pub record Opens (img : List ℕ) (r : Result Sections Refusal) : Type 0 where
   pub sections : IfOk r (λ p. (s : Store) × Stands img p s)
 
 -- the same, and the stack of one inode
-pub record OpensInode (img : List ℕ) (i : ℕ) (r : Result (Sections × InodeLayerStack) Refusal) : Type 0 where
+pub record OpensInode (img : List ℕ) (i : ℕ) (r : Result (Sections × Stack) Refusal) : Type 0 where
   pub verdict : result_err r ≡ verdict_of img
   pub sections : IfOk r (λ x. (s : Store) × Stands img x.0 s)
   pub stack : IfOk r (λ x. StackOf img i x.1)

@@ -1,7 +1,7 @@
 // Where the sections of an image stand that may be used.
 ghost use Rattle.change.specs.Sections.{Opens, OpensInode};
 
-use survey::batch::InodeLayerStack;
+use stack::stack::Stack;
 use survey::refusal::Refusal;
 use survey::store::read_image;
 
@@ -15,17 +15,17 @@ pub struct Sections {
 
 // The one pass over the image that every call starts with: the sections, and the stack of one inode.
 #[tactic(auto, using(crate::proofs::Sections::opens))]
-pub fn open_inode(img: &[u8], ino: u64) -> Result<(Sections, InodeLayerStack), Refusal>
+pub fn open_inode(img: &[u8], ino: u64) -> Result<(Sections, Stack), Refusal>
     ensures { OpensInode img.now ino result }
 {
     let survey = read_image(img, ino)?;
-    let stack = survey.stack;
     let sections = Sections {
         batches: survey.batches,
         live: survey.live,
         tail: survey.tail,
     };
-    Ok((sections, stack))
+    let places = survey.stack;
+    Ok((sections, Stack { img, places }))
 }
 
 // For a call that needs no stack.

@@ -7,7 +7,7 @@ use Prim.Native.Nat.{ℕ}
 use denote.Enum.Declared.{tag_of}
 use mir.Val.{has_key}
 use types.Run.{OneOf, miss}
-use Rattle.wire.specs.declared.text.Part.{Part}
+use Rattle.wire.specs.declared.part.Part.{Part}
 use Rattle.deltas.specs.declared.delta.DirectoryDelta.{DirectoryDelta}
 use Rattle.deltas.specs.declared.delta.FileDelta.{FileDelta}
 use Rattle.deltas.specs.declared.delta.SymlinkDelta.{SymlinkDelta}

@@ -10,7 +10,6 @@ use Rattle.nodes.specs.Options.{text_of, InsideIf}
 use Rattle.nodes.specs.Listed.{list_at, Listed, ListedIf}
 use Rattle.nodes.specs.Attrs.{fields_meant}
 use Rattle.nodes.specs.declared.attr.AttrDelta.{AttrDelta}
-use Rattle.deltas.specs.declared.delta.SpecialDelta.{SpecialDelta}
 use Rattle.deltas.specs.declared.delta.NodeDelta.{NodeDelta}
 use Rattle.deltas.specs.declared.delta.NodeDelta.TheVariants.{Directory, File, Symlink, Fifo, CharDevice, BlockDevice, Socket}
 use Rattle.deltas.specs.declared.delta.EntryDelta.{EntryDelta}
@@ -42,16 +41,6 @@ delta_meant img n = record { fields = fields_meant img (attr_of n); change = cha
 abbrev pub entry_meant : List ℕ → EntryDelta → Record
 entry_meant img (E.Node n) = delta (delta_meant img n)
 entry_meant img E.Tombstone = tombstone
-
--- "other four: device"
-abbrev pub special_delta : Kind → SpecialDelta → NodeDelta
-special_delta directory d = Socket d
-special_delta file d = Socket d
-special_delta symlink d = Socket d
-special_delta (special pipe) d = Fifo d
-special_delta (special character) d = CharDevice d
-special_delta (special block) d = BlockDevice d
-special_delta (special socket) d = Socket d
 
 -- the removed names are the last of a directory's delta, and the added entries end where they start; a target is inside the image
 abbrev pub ChangeListed : List ℕ → NodeDelta → ℕ → Type 0

@@ -1,17 +1,17 @@
 // The record of a layer, from its code on.
-ghost use Rattle.std.specs.Prelude.{◌≤◌, ◌≡◌};
-ghost use Rattle.image.specs.Meaning.{directory, file, symlink};
-ghost use Rattle.image.specs.KindLayout.{kind_at};
-ghost use Rattle.deltas.specs.Deltas.{attr_of, special_delta, ReadsDelta, ReadsEntry};
+ghost use Rattle.std.specs.Prelude.{◌≡◌, List, ℕ};
+ghost use Rattle.image.specs.Meaning.{directory, changed_kind};
+ghost use Rattle.image.specs.FileTypes.{kind_meant};
+ghost use Rattle.deltas.specs.Deltas.{attr_of, change_meant, ReadsDelta, ReadsEntry};
 
-use image::field::{LAST_SIZE, LAST_WORD};
+use image::field::{Inode, Size, Target, Word};
+use image::kind::{FileType, read_code};
 use image::name::Under;
 use nodes::attr::{AttrDelta, read_attr_delta};
-use nodes::option::{read_maybe_number, read_maybe_text};
+use nodes::field::{ReadField, read_maybe};
 use nodes::part::read_names;
 use wire::fault::Fault;
-use wire::number::read_number;
-use wire::text::Part;
+use wire::part::Part;
 
 // Added entries and removed names are lists in the image.
 #[derive(Clone, Copy)]
@@ -58,39 +58,35 @@ pub enum EntryDelta {
     Tombstone,
 }
 
+impl NodeDelta {
+    // Which of the seven kinds it is of.
+    pub fn file_type(self) -> FileType
+        ensures { (img : List ℕ) → kind_meant result ≡ changed_kind (change_meant img self) }
+    {
+        match self {
+            NodeDelta::Directory(_) => FileType::Directory,
+            NodeDelta::File(_) => FileType::RegularFile,
+            NodeDelta::Symlink(_) => FileType::Symlink,
+            NodeDelta::Fifo(_) => FileType::NamedPipe,
+            NodeDelta::CharDevice(_) => FileType::CharDevice,
+            NodeDelta::BlockDevice(_) => FileType::BlockDevice,
+            NodeDelta::Socket(_) => FileType::Socket,
+        }
+    }
+}
+
 // The attribute changes of a delta, whatever its kind.
 pub fn attr_delta(delta: NodeDelta) -> AttrDelta
     ensures { result ≡ attr_of delta }
 {
     match delta {
-        NodeDelta::Directory(directory) => {
-            let attr_delta = directory.attr_delta;
-            attr_delta
-        }
-        NodeDelta::File(file) => {
-            let attr_delta = file.attr_delta;
-            attr_delta
-        }
-        NodeDelta::Symlink(symlink) => {
-            let attr_delta = symlink.attr_delta;
-            attr_delta
-        }
-        NodeDelta::Fifo(special) => {
-            let attr_delta = special.attr_delta;
-            attr_delta
-        }
-        NodeDelta::CharDevice(special) => {
-            let attr_delta = special.attr_delta;
-            attr_delta
-        }
-        NodeDelta::BlockDevice(special) => {
-            let attr_delta = special.attr_delta;
-            attr_delta
-        }
-        NodeDelta::Socket(special) => {
-            let attr_delta = special.attr_delta;
-            attr_delta
-        }
+        NodeDelta::Directory(directory) => directory.attr_delta,
+        NodeDelta::File(file) => file.attr_delta,
+        NodeDelta::Symlink(symlink) => symlink.attr_delta,
+        NodeDelta::Fifo(special) => special.attr_delta,
+        NodeDelta::CharDevice(special) => special.attr_delta,
+        NodeDelta::BlockDevice(special) => special.attr_delta,
+        NodeDelta::Socket(special) => special.attr_delta,
     }
 }
 
@@ -98,12 +94,12 @@ pub fn attr_delta(delta: NodeDelta) -> AttrDelta
 pub fn read_entry_delta(img: &[u8], at: usize) -> Result<(EntryDelta, usize), Fault>
     ensures { ReadsEntry img.now at result }
 {
-    let (code, start) = read_number(img, at, 7)?;
-    if code == 0 {
+    let (code, start) = read_code(img, at)?;
+    let Some(kind) = code else {
         return Ok((EntryDelta::Tombstone, start));
-    }
+    };
     let (attr_delta, change) = read_attr_delta(img, start)?;
-    let (delta, next) = read_node_delta(img, change, code - 1, attr_delta)?;
+    let (delta, next) = read_node_delta(img, change, kind, attr_delta)?;
     Ok((EntryDelta::Node(delta), next))
 }
 
@@ -111,16 +107,41 @@ pub fn read_entry_delta(img: &[u8], at: usize) -> Result<(EntryDelta, usize), Fa
 fn read_node_delta(
     img: &[u8],
     at: usize,
-    kind: u64,
+    kind: FileType,
     attr_delta: AttrDelta,
 ) -> Result<(NodeDelta, usize), Fault>
-    ensures { ReadsDelta img.now (kind_at kind) attr_delta at result }
+    ensures { ReadsDelta img.now (kind_meant kind) attr_delta at result }
 {
     match kind {
-        0 => read_directory_delta(img, at, attr_delta),
-        1 => read_file_delta(img, at, attr_delta),
-        2 => read_symlink_delta(img, at, attr_delta),
-        _ => read_special_delta(img, at, kind, attr_delta),
+        FileType::Directory => read_directory_delta(img, at, attr_delta),
+        FileType::RegularFile => {
+            let (size, next) = read_maybe::<Size>(img, at)?;
+            Ok((NodeDelta::File(FileDelta { size, attr_delta }), next))
+        }
+        FileType::Symlink => {
+            let (target, next) = read_maybe::<Target>(img, at)?;
+            let delta = SymlinkDelta { target, attr_delta };
+            Ok((NodeDelta::Symlink(delta), next))
+        }
+        FileType::NamedPipe => {
+            let (rdev, next) = Word::read(img, at)?;
+            Ok((NodeDelta::Fifo(SpecialDelta { rdev, attr_delta }), next))
+        }
+        FileType::CharDevice => {
+            let (rdev, next) = Word::read(img, at)?;
+            let delta = SpecialDelta { rdev, attr_delta };
+            Ok((NodeDelta::CharDevice(delta), next))
+        }
+        FileType::BlockDevice => {
+            let (rdev, next) = Word::read(img, at)?;
+            let delta = SpecialDelta { rdev, attr_delta };
+            Ok((NodeDelta::BlockDevice(delta), next))
+        }
+        FileType::Socket => {
+            let (rdev, next) = Word::read(img, at)?;
+            let delta = SpecialDelta { rdev, attr_delta };
+            Ok((NodeDelta::Socket(delta), next))
+        }
     }
 }
 
@@ -131,7 +152,7 @@ fn read_directory_delta(
 ) -> Result<(NodeDelta, usize), Fault>
     ensures { ReadsDelta img.now directory attr_delta at result }
 {
-    let (parent, entries) = read_maybe_number(img, at, u64::MAX)?;
+    let (parent, entries) = read_maybe::<Inode>(img, at)?;
     let (added, names) = read_names(img, entries, Under::Inode)?;
     let (removed, next) = read_names(img, names, Under::Nothing)?;
     let delta = DirectoryDelta {
@@ -141,56 +162,4 @@ fn read_directory_delta(
         attr_delta,
     };
     Ok((NodeDelta::Directory(delta), next))
-}
-
-fn read_file_delta(
-    img: &[u8],
-    at: usize,
-    attr_delta: AttrDelta,
-) -> Result<(NodeDelta, usize), Fault>
-    ensures { ReadsDelta img.now file attr_delta at result }
-{
-    let (size, next) = read_maybe_number(img, at, LAST_SIZE)?;
-    Ok((NodeDelta::File(FileDelta { size, attr_delta }), next))
-}
-
-fn read_symlink_delta(
-    img: &[u8],
-    at: usize,
-    attr_delta: AttrDelta,
-) -> Result<(NodeDelta, usize), Fault>
-    ensures { ReadsDelta img.now symlink attr_delta at result }
-{
-    let (target, next) = read_maybe_text(img, at, 4095)?;
-    Ok((
-        NodeDelta::Symlink(SymlinkDelta { target, attr_delta }),
-        next,
-    ))
-}
-
-// A pipe, a device or a socket.
-fn read_special_delta(
-    img: &[u8],
-    at: usize,
-    kind: u64,
-    attr_delta: AttrDelta,
-) -> Result<(NodeDelta, usize), Fault>
-    requires { 3 ≤ kind }
-    ensures { ReadsDelta img.now (kind_at kind) attr_delta at result }
-{
-    let (number, next) = read_number(img, at, LAST_WORD)?;
-    let rdev = number as u32;
-    let delta = special_delta(kind, SpecialDelta { rdev, attr_delta });
-    Ok((delta, next))
-}
-
-fn special_delta(kind: u64, delta: SpecialDelta) -> NodeDelta
-    ensures { result ≡ special_delta (kind_at kind) delta }
-{
-    match kind {
-        3 => NodeDelta::Fifo(delta),
-        4 => NodeDelta::CharDevice(delta),
-        5 => NodeDelta::BlockDevice(delta),
-        _ => NodeDelta::Socket(delta),
-    }
 }

@@ -22,7 +22,7 @@ use Rattle.image.specs.FieldLayout.{name}
 use Rattle.image.specs.Under.{UnderName, under}
 use Rattle.image.specs.Places.{Holds}
 use Rattle.nodes.specs.Listed.{by_name, list_at, ListedIf}
-use Rattle.wire.specs.declared.text.Part.{Part}
+use Rattle.wire.specs.declared.part.Part.{Part}
 use Rattle.writers.proofs.Writing.{list_written}
 use Rattle.rules.specs.Asks.{bad_name}
 use Rattle.change.specs.Sections.{between, Spans}

@@ -1,6 +1,6 @@
 -- A list by name with the row of one name changed. Document 01: "Adding takes the name out of removed, and the reverse; both set mtime and
 -- ctime to the given time."
-use Rattle.wire.specs.declared.text.Part.{Part}
+use Rattle.wire.specs.declared.part.Part.{Part}
 use Rattle.std.specs.Prelude.{◌≡◌, Bool, true, false, not, cond, List, [], ◌∷◌, ℕ, ◌≤◌, length, Result, None, Option, Some}
 use Rattle.wire.specs.declared.time.Time.{Time}
 use Rattle.wire.specs.Orders.{by_bytes}

@@ -14,8 +14,9 @@ use overlay::list::{Gap, NewList, NewRow, NewRows, kept};
 use std::cmp::Ordering;
 use wire::number::read_number;
 use wire::order::compare_part;
+use wire::part::Part;
 use wire::put::advance;
-use wire::text::{Part, read_text};
+use wire::text::read_text;
 
 // The list with the row of a name as it is to be.
 pub fn with_row(img: &[u8], list: Option<Part>, what: Under, name: &[u8], new: NewRow) -> NewList
@@ -109,7 +110,7 @@ fn cut_named(img: &[u8], first: usize, count: u64, what: Under, name: &[u8]) -> 
         let Ok(after) = pass_under(img, start, what) else {
             break;
         };
-        match compare_part(img, text.start, text.length, name) {
+        match compare_part(img, text, name) {
             Ordering::Less => {}
             Ordering::Equal => {
                 return Cut {

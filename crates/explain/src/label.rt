@@ -14,7 +14,7 @@ pub struct Label {
     pub place: Option<usize>,
 }
 
-// The batches, front first, and then live.
+// The batches, front first, and then live. No `Vec`: the project has no heap.
 #[derive(Clone, Copy)]
 pub struct Labels {
     pub layers: [Label; 17],

@@ -8,19 +8,17 @@ mod label;
 mod show;
 
 ghost use Rattle.std.specs.Prelude.{◌≤◌, ◌<◌, IfOk};
-ghost use Rattle.stack.specs.Stacks.{Stacked};
 
 use input::fill;
 use label::{Labels, label_layers};
 use lookup::child::lookup_child;
 use show::{write_answer, write_base, write_label, write_question, write_record, write_refusal};
 use stack::name::open_named;
+use stack::stack::Stack;
 use std::env::FillError;
 use std::io;
 use std::rt::Env;
-use survey::batch::InodeLayerStack;
 use trace::said::deciding;
-use wire::part::part;
 
 fn main(rt: HostRuntime) -> io::Result<()> {
     if !has_argument(&rt, 2) || has_argument(&rt, 3) {
@@ -67,15 +65,11 @@ fn read_decimal(text: &[u8]) -> Option<u64> {
     Some(sum)
 }
 
-// Of a name that is longer than 4,096 bytes the start is enough to refuse it.
-fn name_length(found: Result<usize, FillError>) -> usize {
-    found.unwrap_or(4096)
-}
-
 fn explain_name(rt: &HostRuntime, ino: u64) -> io::Result<()> {
     let mut name = [0u8; 4096];
-    let end = name_length(rt.arg(2, &mut name));
-    explain_image(rt, ino, part(&name, 0, end))
+    // of a name that is longer than 4,096 bytes the start is enough to refuse it
+    let end = rt.arg(2, &mut name).unwrap_or(4096);
+    explain_image(rt, ino, &name[..end])
 }
 
 fn explain_image(rt: &HostRuntime, ino: u64, name: &[u8]) -> io::Result<()> {
@@ -91,28 +85,27 @@ fn explain(rt: &impl Print, img: &[u8], ino: u64, name: &[u8]) -> io::Result<()>
     };
     write_question(rt, ino, name)?;
     let labels = label_layers(img, ino);
-    let decides = deciding(img, stack, name);
-    write_layers(rt, img, stack, name, labels, decides)?;
-    write_base(rt, img, stack, name, decides == 0)?;
+    let decides = deciding(stack, name);
+    write_layers(rt, stack, name, labels, decides)?;
+    write_base(rt, stack, name, decides == 0)?;
     write_answer(rt, lookup_child(img, ino, name))
 }
 
 // A line for each layer, live first.
 fn write_layers(
     rt: &impl Print,
-    img: &[u8],
-    stack: InodeLayerStack,
+    stack: Stack,
     name: &[u8],
     labels: Labels,
     decides: usize,
 ) -> io::Result<()>
-    requires { Stacked img.now stack × (labels.batches ≤ 16) }
+    requires { labels.batches ≤ 16 }
 {
-    let mut left = stack.count;
+    let mut left = stack.places.count;
     for layer in (0..=labels.batches).rev() {
         write_label(rt, labels, layer)?;
         let place = labels.layers[layer].place;
-        left = write_layer(rt, img, stack, name, place, left, decides)?;
+        left = write_layer(rt, stack, name, place, left, decides)?;
     }
     Ok(())
 }
@@ -120,21 +113,20 @@ fn write_layers(
 // The highest of the lowest `left` records, if it is the one that stands at the layer's place. Answers how many are left.
 fn write_layer(
     rt: &impl Print,
-    img: &[u8],
-    stack: InodeLayerStack,
+    stack: Stack,
     name: &[u8],
     place: Option<usize>,
     left: usize,
     decides: usize,
 ) -> io::Result<usize>
-    requires { Stacked img.now stack × (left ≤ stack.count) }
+    requires { left ≤ stack.places.count }
     ensures { IfOk result (λ rest. rest ≤ left) }
 {
-    if left == 0 || Some(stack.deltas[left - 1]) != place {
+    if left == 0 || Some(stack.places.deltas[left - 1]) != place {
         println!(rt; "no record")?;
         return Ok(left);
     }
     let i = left - 1;
-    write_record(rt, img, stack, i, name, decides == left)?;
+    write_record(rt, stack, i, name, decides == left)?;
     Ok(i)
 }

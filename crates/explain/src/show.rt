@@ -1,13 +1,11 @@
 // The lines of an explanation.
 ghost use Rattle.std.specs.Prelude.{◌<◌};
-ghost use Rattle.stack.specs.Stacks.{Stacked};
 
 use crate::label::Labels;
-use attrs::node::FileType;
+use image::kind::FileType;
 use stack::file_type::{base_type, entry_type};
-use stack::stack::{base_node, record_at};
+use stack::stack::Stack;
 use std::io;
-use survey::batch::InodeLayerStack;
 use survey::refusal::Refusal;
 use trace::said::{Said, base_says, says_at};
 
@@ -68,16 +66,15 @@ fn no_child(file_type: FileType) -> &'static str {
 // The line of one record.
 pub fn write_record(
     rt: &impl Print,
-    img: &[u8],
-    stack: InodeLayerStack,
+    stack: Stack,
     i: usize,
     name: &[u8],
     decides: bool,
 ) -> io::Result<()>
-    requires { Stacked img.now stack × (i < stack.count) }
+    requires { i < stack.places.count }
 {
-    let shown = entry_type(record_at(img, stack, i));
-    let said = says_at(img, stack, i, name);
+    let shown = entry_type(stack.record(i));
+    let said = says_at(stack, i, name);
     match shown {
         Some(file_type) => write_delta(rt, file_type, said)?,
         None => print!(rt; "tombstone")?,
@@ -95,18 +92,10 @@ fn write_delta(rt: &impl Print, file_type: FileType, said: Said) -> io::Result<(
 }
 
 // The line of the base.
-pub fn write_base(
-    rt: &impl Print,
-    img: &[u8],
-    stack: InodeLayerStack,
-    name: &[u8],
-    decides: bool,
-) -> io::Result<()>
-    requires { Stacked img.now stack }
-{
+pub fn write_base(rt: &impl Print, stack: Stack, name: &[u8], decides: bool) -> io::Result<()> {
     print!(rt; "base: ")?;
-    let shown = base_type(base_node(img, stack));
-    let said = base_says(img, stack, name);
+    let shown = base_type(stack.base());
+    let said = base_says(stack, name);
     match shown {
         Some(file_type) => write_node(rt, file_type, said)?,
         None => print!(rt; "no node")?,

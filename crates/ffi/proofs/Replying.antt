@@ -72,3 +72,5 @@ module _ (img : List ℕ) where
       size = rw e;
       inside = omega (arith, no_bytes);
     }
+
+pub ruleset changes = (change-replied, time-is)

@@ -1,4 +1,6 @@
 // The calls that change the queue of batches and the base. Each writes the new image to the target, or refuses and writes nothing.
+#![tactic(auto, using(crate::proofs::Replying::changes))]
+
 ghost use Rattle.std.specs.Prelude.{length};
 ghost use Rattle.rules.specs.Initial.{usual};
 ghost use Rattle.rules.specs.ChangeCalls.{freeze_live, fold_entries, pop_flushed_batch, record_mutation, request_freeze, snapshot_all};

@@ -1,4 +1,6 @@
 // The calls that change the records of a layer. Each writes the new image to the target, or refuses and writes nothing.
+#![tactic(auto, using(crate::proofs::Replying::changes))]
+
 ghost use Rattle.std.specs.Prelude.{length};
 ghost use Rattle.rules.specs.Initial.{usual};
 ghost use Rattle.rules.specs.ChangeCalls.{insert_new_node, tombstone as tombstoned, add_dir_entry, remove_dir_entry, update_dir_parent, update_attr_delta, normalize_directory_deltas};

@@ -1,18 +1,20 @@
-// What the exported calls answer. In each, `refusal` is the number of the refusal, 0 for none.
+// What the exported calls answer. In each, `refusal` is the number of the refusal, 0 for none. They are laid out for C, which has no `Option`
+// and no `Result`.
 ghost use Rattle.std.specs.Prelude.{◌≡◌};
 ghost use Rattle.stack.specs.Stacks.{type_of};
 ghost use Rattle.layers.specs.Attrs.{attr_if};
 ghost use Rattle.rules.specs.Answers.{answer};
 ghost use Rattle.nodes.specs.Options.{text_of as textMeant};
-ghost use Rattle.attrs.specs.Meant.{kind_meant, attr_meant};
+ghost use Rattle.image.specs.FileTypes.{kind_meant};
+ghost use Rattle.attrs.specs.Meant.{attr_meant};
 ghost use Rattle.survey.specs.Verdict.{numbered};
 ghost use Rattle.layers.specs.Answered.{answered};
 ghost use Rattle.ffi.specs.Replies.{yes_no_reply, type_reply, inode_reply, time_out, attr_out, no_attr, attr_reply, no_text, TextReplies, time_given, reply_of};
 
-use attrs::node::{FileAttr, FileType};
+use attrs::node::FileAttr;
+use image::kind::FileType;
 use survey::refusal::Refusal;
-use wire::part::part;
-use wire::text::Part;
+use wire::part::Part;
 use wire::time::Time;
 
 #[repr(C)]
@@ -232,7 +234,7 @@ pub fn text_reply(img: &[u8], text: Option<Part>) -> TextReply
     let Some(place) = text else {
         return no_text(0);
     };
-    let bytes = part(img, place.start, place.length);
+    let bytes = place.of(img);
     let length = bytes.len();
     let mut start = place.start;
     if length == 0 {

@@ -4,10 +4,11 @@ ghost use Rattle.rules.specs.ReadCalls.{read_link, get_xattr};
 ghost use Rattle.ffi.specs.Replies.{TextReplies};
 
 use crate::reply::{TextReply, no_text, text_reply};
-use layers::layers::link_in;
+use layers::layers::LinkText;
 use stack::name::open_named;
-use stack::stack::open_image;
-use xattrs::xattr::xattr_in;
+use stack::open::open_image;
+use stack::question::decided;
+use xattrs::xattr::Attribute;
 
 // The text of a link.
 #[unsafe(no_mangle)]
@@ -15,7 +16,7 @@ pub extern "C" fn appendfs_read_link(img: &[u8], ino: u64) -> TextReply
     ensures { TextReplies img.now (read_link usual img.now ino) result }
 {
     match open_image(img, ino) {
-        Ok(stack) => text_reply(img, link_in(img, stack)),
+        Ok(stack) => text_reply(img, decided(stack, &LinkText)),
         Err(refusal) => no_text(refusal.number()),
     }
 }
@@ -26,7 +27,7 @@ pub extern "C" fn appendfs_get_xattr(img: &[u8], ino: u64, name: &[u8]) -> TextR
     ensures { TextReplies img.now (get_xattr usual img.now ino name.now) result }
 {
     match open_named(img, ino, name) {
-        Ok(stack) => text_reply(img, xattr_in(img, stack, name)),
+        Ok(stack) => text_reply(img, decided(stack, &Attribute { name })),
         Err(refusal) => no_text(refusal.number()),
     }
 }

@@ -16,14 +16,12 @@ pub fn fold_entries(img: &[u8], target: &mut [u8]) -> Result<usize, Refusal>
     ensures { Changes (fold_entries usual img.now (length target.old)) target.old result target.new }
 {
     let sections = open_sections(img)?;
-    let batches = sections.batches;
-    let (count, _) = read_number(img, batches, 16).unwrap();
+    let (count, _) = read_number(img, sections.batches, 16).unwrap();
     if count == 0 {
         return Err(Refusal::NoBatch);
     }
     let layers = open_layers(img, sections, 1);
-    let walk = layers.walk;
-    write_flushed(img, walk, Flush::Fold(batches), target)
+    write_flushed(img, layers.walk, Flush::Fold(sections.batches), target)
 }
 
 // Folds every layer into the base, and drops non-directories with 0 links. Its scratch is that of a fold: a walk and the sources of one list,
@@ -34,7 +32,6 @@ pub fn snapshot_all(img: &[u8], target: &mut [u8]) -> Result<usize, Refusal>
     let sections = open_sections(img)?;
     let (count, _) = read_number(img, sections.batches, 16).unwrap();
     let layers = open_layers(img, sections, count + 1);
-    let walk = layers.walk;
     let (tail, _) = read_tail(img, sections.tail).unwrap();
-    write_flushed(img, walk, Flush::Snapshot(tail.next_id), target)
+    write_flushed(img, layers.walk, Flush::Snapshot(tail.next_id), target)
 }

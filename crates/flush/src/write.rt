@@ -6,8 +6,8 @@ ghost use Rattle.base.specs.Nodes.{Few};
 ghost use Rattle.flush.specs.Flushes.{drops_of, emptied, rest_bytes, flushed};
 
 use base::node::put_nodes;
-use change::answer::lacks_room;
 use change::copy::put_between;
+use change::room::lacks_room;
 use survey::refusal::Refusal;
 use walk::walk::Walk;
 use wire::number::put_number;
@@ -41,7 +41,7 @@ fn put_emptied(buf: &mut [u8], at: usize, next_id: u64) -> usize
         next_id,
         bytes: 0,
         operations: 0,
-        request: 0,
+        request: None,
     };
     let live = put_number(buf, at, 0);
     let end = put_number(buf, live, 0);

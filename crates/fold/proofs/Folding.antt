@@ -6,9 +6,6 @@ use mathlib.Core.Bool.{Bool, true, false}
 use mathlib.Core.List.{List, ◌++◌, append_assoc, append-nil}
 use Prim.Native.Nat.{ℕ, ◌+◌, ◌≤◌, ◌<◌}
 use native.Mathlib.Omega.{arith}
-use lib.ListN.{get_or}
-use denote.Enum.Declared.{tag_of}
-use types.Run.{OneOf}
 use Rattle.wire.specs.Orders.{by_bytes}
 use Rattle.wire.specs.Maps.{Map, empty}
 use Rattle.wire.specs.Number.{number_bytes}
@@ -22,7 +19,6 @@ use Rattle.image.specs.NodeLayout.{node}
 use Rattle.image.specs.Under.{UnderName}
 use Rattle.image.specs.declared.name.Under.{Under}
 use Rattle.image.specs.declared.name.Under.TheVariants as U
-use Rattle.survey.specs.declared.batch.InodeLayerStack.{InodeLayerStack}
 use Rattle.rules.specs.Initial.{usual}
 use Rattle.rules.specs.Fold.{same_kind, applied, fold_record}
 use Rattle.rules.specs.PlacedStacks.{records_on, node_at, unplaced, unplaced_node}
@@ -33,20 +29,19 @@ use Rattle.nodes.specs.Nodes.{body_meant, EntriesListed}
 use Rattle.deltas.specs.declared.delta.NodeDelta.{NodeDelta}
 use Rattle.deltas.specs.declared.delta.EntryDelta.{EntryDelta}
 use Rattle.deltas.specs.declared.delta.EntryDelta.TheVariants as E
-use Rattle.wire.specs.declared.text.Part.{Part}
+use Rattle.wire.specs.declared.part.Part.{Part}
 use Rattle.nodes.specs.declared.node.NodeKind.{NodeKind}
 use Rattle.nodes.specs.declared.node.NodeKind.TheVariants as K
 use Rattle.nodes.specs.declared.node.Node.{Node}
-use Rattle.nodes.specs.contracts.node.NodeKind as kinds
-use Rattle.deltas.specs.contracts.delta.NodeDelta as deltas
-use Rattle.deltas.proofs.Others.{one-delta, one-kind, not_directory}
-use Rattle.attrs.specs.Meant.{kind_meant}
-use Rattle.attrs.specs.declared.node.FileType.{FileType}
+use Rattle.image.specs.FileTypes.{kind_meant}
+use Rattle.image.specs.declared.kind.FileType.{FileType}
 use Rattle.writers.specs.Writes.{meta_bytes}
 use Rattle.writers.proofs.Written.{meta-with-bytes}
 use Rattle.records.specs.Records.{body_bytes}
 use Rattle.writers.proofs.Writing.{list_written}
-use Rattle.stack.specs.Stacks.{Stacked, records_under, records_in, node_in, RecordIs, BaseIs}
+use Rattle.stack.specs.Stacks.{records_under, records_in, node_in, BaseIs}
+use Rattle.stack.specs.InStack.{RecordIn, BaseIn}
+use Rattle.stack.specs.declared.stack.Stack.{Stack}
 use Rattle.stack.proofs.Walks.{records-more}
 use Rattle.apply.specs.Folded.{body_with, node_with, on_attributes, on_entries, FirstNode, AppliesNode}
 use Rattle.fold.specs.Lists.{attributes_of, entries_of}
@@ -75,11 +70,8 @@ shows-kind {img} {f} h = kind-with img f.node.kind h.entries ∙ ap (λ (x : M.N
 pub attributes-stay : {d : NodeDelta} {o : Origin} → (attr_of d).xattrs ≡ None → AttributesAfter d o o
 attributes-stay e = record { makes = λ img vs h. rw e h }
 
-other-change : (img : List ℕ) (es : Entries) (d : NodeDelta) → OneOf not_directory (tag_of deltas.the_type d) → on_entries (change_meant img d) es ≡ es
-other-change img es = one-delta not_directory (λ d. on_entries (change_meant img d) es ≡ es) tt (λ d. refl) (λ d. refl) (λ d. refl) (λ d. refl) (λ d. refl) (λ d. refl)
-
-pub entries-stay : (d : NodeDelta) {o : Origin} → OneOf not_directory (tag_of deltas.the_type d) → EntriesAfter d o o
-entries-stay d k = record { makes = λ img es h. rw (other-change img es d k) h }
+pub entries-stay : {d : NodeDelta} {o : Origin} → ((img : List ℕ) (es : Entries) → on_entries (change_meant img d) es ≡ es) → EntriesAfter d o o
+entries-stay e = record { makes = λ img es h. rw (e img es) h }
 
 -- ---- a record folded in
 
@@ -138,10 +130,6 @@ body-shows img (K.CharDevice rdev) = refl
 body-shows img (K.BlockDevice rdev) = refl
 body-shows img K.Socket = refl
 
--- the entries of a base node
-pub other-entries-from : (k : NodeKind) → OneOf not_directory (tag_of kinds.the_type k) → From.Nothing ≡ entries_from k
-other-entries-from = one-kind not_directory (λ k. From.Nothing ≡ entries_from k) tt (λ size. refl) (λ target. refl) refl (λ rdev. refl) (λ rdev. refl) refl
-
 whole : {img : List ℕ} {u : Under} {p : Part} {end : ℕ} → Listed img u p end → Comes img u (From.Base p) (list_at img u p)
 whole h = (refl, rw h.ends h)
 
@@ -175,22 +163,22 @@ base-shows n {o} e = record { makes = go }
     })
 
 -- the node of the lowest i records
-pub record Rising (img : List ℕ) (s : InodeLayerStack) (o : Option Folded) (i : ℕ) : Type 0 where
-  pub low : i ≤ s.count
-  pub shows : ShowsIf img o (folded usual (unplaced (records_under img s i)) (unplaced_node (node_in img s)))
+pub record Rising (s : Stack) (o : Option Folded) (i : ℕ) : Type 0 where
+  pub low : i ≤ s.places.count
+  pub shows : ShowsIf s.img.now o (folded usual (unplaced (records_under s.img.now s.places i)) (unplaced_node (node_in s.img.now s.places)))
 
-module _ {img : List ℕ} {s : InodeLayerStack} {o : Option Folded} where
-  pub rising-base : {b : Option Node} → BaseIs img s.base b → FoldsBase b o → Rising img s o 0
+module _ {s : Stack} {o : Option Folded} where
+  pub rising-base : {b : Option Node} → BaseIn s b → FoldsBase b o → Rising s o 0
   unfolding records_on folded
-  rising-base b f = record { low = omega arith; shows = f.makes img s.base b }
+  rising-base b f = record { low = omega arith; shows = f.makes s.img.now s.places.base b }
 
-  pub rising-more : Stacked img s → {i : ℕ} → Rising img s o i → i < s.count → {e : EntryDelta} → RecordIs img (get_or s.deltas i 0) e → {r : Option Folded} → FoldsRecord e o r
-      → Rising img s r (i + 1)
+  pub rising-more : {i : ℕ} → Rising s o i → i < s.places.count → {e : EntryDelta} → RecordIn s i e → {r : Option Folded} → FoldsRecord e o r
+      → Rising s r (i + 1)
   unfolding folded
-  rising-more h {i} w l g f = record { low = omega arith; shows = rw (records-more h i l g) (f.makes img _ w.shows) }
+  rising-more {i} w l g f = record { low = omega arith; shows = rw (records-more s.stacked i l g) (f.makes s.img.now _ w.shows) }
 
-  pub rising-all : {i : ℕ} → Rising img s o i → s.count ≤ i → ShowsIf img o (folded_in img s)
-  rising-all {i} w l = let z : i ≡ s.count = omega (arith, w.low) in rw z at w.shows
+  pub rising-all : {i : ℕ} → Rising s o i → s.places.count ≤ i → ShowsIf s.img.now o (folded_in s)
+  rising-all {i} w l = let z : i ≡ s.places.count = omega (arith, w.low) in rw z at w.shows
 
 -- ---- the bytes of its lists
 
@@ -209,26 +197,28 @@ with_entries img (K.CharDevice rdev) es d = absurd (let z : ◌≡◌ {A = ℕ} 
 with_entries img (K.BlockDevice rdev) es d = absurd (let z : ◌≡◌ {A = ℕ} 0 1 = cc in omega arith)
 with_entries img K.Socket es d = absurd (let z : ◌≡◌ {A = ℕ} 0 1 = cc in omega arith)
 
-module _ (img : List ℕ) (s : InodeLayerStack) {f : Folded} {m : M.Node} (e : folded_in img s ≡ Some m) (h : Shows img f m) where
+module _ (s : Stack) {f : Folded} {m : M.Node} (e : folded_in s ≡ Some m) (h : Shows s.img.now f m) where
   attribute-bytes : (t : FileType) → ((x : List ℕ) → kind_meant t ≡ kind_of (body_meant x f.node.kind))
-      → origin_bytes img f.attributes (attributes.write (attributes_of img s t)) ≡ attributes.write h.attributes
+      → origin_bytes s.img.now f.attributes (attributes.write (attributes_of s t)) ≡ attributes.write h.attributes
   attribute-bytes t k =
-      origin-bytes img U.Value f.attributes h.attributes (attributes_of img s t) h.attributes_come (λ o.
-      attributes-fold t (records_in img s) (node_in img s) m e (k img ∙ shows-kind h) ∙ ap (λ (x : M.Node). x.meta.attributes) (sym h.is))
+      origin-bytes s.img.now U.Value f.attributes h.attributes (attributes_of s t) h.attributes_come (λ o.
+      attributes-fold t (records_in s.img.now s.places) (node_in s.img.now s.places) m e (k s.img.now ∙ shows-kind h)
+      ∙ ap (λ (x : M.Node). x.meta.attributes) (sym h.is))
 
-  entry-bytes : kind_of (body_with img f.node.kind h.entries) ≡ directory → origin_bytes img f.entries (entries.write (entries_of img s)) ≡ entries.write h.entries
+  entry-bytes : kind_of (body_with s.img.now f.node.kind h.entries) ≡ directory
+      → origin_bytes s.img.now f.entries (entries.write (entries_of s)) ≡ entries.write h.entries
   entry-bytes d =
-      origin-bytes img U.Inode f.entries h.entries (entries_of img s) h.entries_come (λ o.
-      entries-fold (records_in img s) (node_in img s) m e (ap (λ (x : M.Node). kind_of x.body) (sym h.is) ∙ d)
-      ∙ ap (λ (x : M.Node). entries_in x.body) (sym h.is) ∙ with_entries img f.node.kind h.entries d)
+      origin-bytes s.img.now U.Inode f.entries h.entries (entries_of s) h.entries_come (λ o.
+      entries-fold None (records_in s.img.now s.places) (node_in s.img.now s.places) m e (ap (λ (x : M.Node). kind_of x.body) (sym h.is) ∙ d)
+      ∙ ap (λ (x : M.Node). entries_in x.body) (sym h.is) ∙ with_entries s.img.now f.node.kind h.entries d)
 
-pub merged-folds : {img : List ℕ} {s : InodeLayerStack} {f : Folded} {old : List ℕ} {at r : ℕ} {new : List ℕ} → FoldsTo img s f → Merged img s f old at r new
-    → Put old at (bytes_if (folded_in img s)) r new
-merged-folds {img} {s} {f} {old} {at} {r} {new} g w = go (folded_in img s) refl g.shows
+pub merged-folds : {s : Stack} {f : Folded} {old : List ℕ} {at r : ℕ} {new : List ℕ} → FoldsTo s f → Merged s f old at r new
+    → Put old at (bytes_if (folded_in s)) r new
+merged-folds {s} {f} {old} {at} {r} {new} g w = go (folded_in s) refl g
   where
-    go : (o : Option M.Node) → folded_in img s ≡ o → ShowsIf img (Some f) o → Put old at (bytes_if o) r new
+    go : (o : Option M.Node) → folded_in s ≡ o → ShowsIf s.img.now (Some f) o → Put old at (bytes_if o) r new
     go None e h = absurd h
-    go (Some m) e h = rw h.is at (w.puts h.attributes h.entries (attribute-bytes img s e h w.type w.same) (entry-bytes img s e h))
+    go (Some m) e h = rw h.is at (w.puts h.attributes h.entries (attribute-bytes s e h w.type w.same) (entry-bytes s e h))
 
 -- ---- as it is written
 
@@ -237,25 +227,35 @@ node-with-bytes : (img : List ℕ) (n : Node) (vs : Attributes) (es : Entries)
 unfolding node kind
 node-with-bytes img n vs es = rw (meta-with-bytes n.meta vs, kind-with img n.kind es) (simp append_assoc)
 
-pub merged-put : (img : List ℕ) (s : InodeLayerStack) (f : Folded) (t : FileType) → ((x : List ℕ) → kind_meant t ≡ kind_of (body_meant x f.node.kind))
-    → {k : ℕ} → ((x : List ℕ) → k ≡ kind_number (kind_of (body_meant x f.node.kind))) → {b₀ b₁ b₂ b₃ b₄ : List ℕ} {at q₁ q₂ q₃ r : ℕ} → Put b₀ at (number_bytes k) q₁ b₁
-    → Put b₁ q₁ (meta_bytes f.node.meta) q₂ b₂ → Put b₂ q₂ (origin_bytes img f.attributes (attributes.write (attributes_of img s t))) q₃ b₃
-    → PutsBody img s f.node.kind f.entries b₃ q₃ r b₄ → Merged img s f b₀ at r b₄
-merged-put img s f t e g a b c d = record {
+pub merged-put : (s : Stack) (f : Folded) (t : FileType) → ((x : List ℕ) → kind_meant t ≡ kind_of (body_meant x f.node.kind)) → {k : ℕ}
+    → k ≡ kind_number (kind_meant t)
+    → {b₀ b₁ b₂ b₃ b₄ : List ℕ} {at q₁ q₂ q₃ r : ℕ} → Put b₀ at (number_bytes k) q₁ b₁ → Put b₁ q₁ (meta_bytes f.node.meta) q₂ b₂
+    → Put b₂ q₂ (origin_bytes s.img.now f.attributes (attributes.write (attributes_of s t))) q₃ b₃ → PutsBody s f.node.kind f.entries b₃ q₃ r b₄
+    → Merged s f b₀ at r b₄
+merged-put s f t e g a b c d = record {
   type = t;
   same = e;
-  puts = λ vs es u v. rw (← (node-with-bytes img f.node vs es)) (put-append (rw (g img) at a) (put-append b (put-append (rw u at c) (d.puts es v))));
+  puts =
+      λ vs es u v. rw (← (node-with-bytes s.img.now f.node vs es))
+      (put-append (rw (g, e s.img.now) at a) (put-append b (put-append (rw u at c) (d.puts es v))));
 }
 
 -- a directory
-pub body-directory : {img : List ℕ} {s : InodeLayerStack} {k : NodeKind} {parent : ℕ} {p : Part} {o : Origin} {b₀ b₁ b₂ : List ℕ} {at q r : ℕ} → k ≡ K.Directory parent p → Put b₀ at (number_bytes parent) q b₁
-    → Put b₁ q (origin_bytes img o (entries.write (entries_of img s))) r b₂ → PutsBody img s k o b₀ at r b₂
+pub body-directory : {s : Stack} {k : NodeKind} {parent : ℕ} {p : Part} {o : Origin} {b₀ b₁ b₂ : List ℕ} {at q r : ℕ} → k ≡ K.Directory parent p
+    → Put b₀ at (number_bytes parent) q b₁
+    → Put b₁ q (origin_bytes s.img.now o (entries.write (entries_of s))) r b₂ → PutsBody s k o b₀ at r b₂
 body-directory e a b = record { puts = λ es h. rw e (put-append a (rw (h (rw e)) at b)) }
 
 -- all but a directory have no entries
-body-other : (img : List ℕ) (es : Entries) (k : NodeKind) → OneOf not_directory (tag_of kinds.the_type k) → body_bytes img k ≡ body_written img k es
-body-other img es = one-kind not_directory (λ k. body_bytes img k ≡ body_written img k es) tt (λ size. refl) (λ target. refl) refl (λ rdev. refl) (λ rdev. refl) refl
+body-other : (img : List ℕ) (es : Entries) (k : NodeKind) → ((parent : ℕ) (p : Part) → k ≡ K.Directory parent p → ⊥) → body_bytes img k ≡ body_written img k es
+body-other img es (K.Directory parent p) h = absurd (h parent p refl)
+body-other img es (K.File size) h = refl
+body-other img es (K.Symlink t) h = refl
+body-other img es K.Fifo h = refl
+body-other img es (K.CharDevice rdev) h = refl
+body-other img es (K.BlockDevice rdev) h = refl
+body-other img es K.Socket h = refl
 
-pub body-plain : {img : List ℕ} {s : InodeLayerStack} (k : NodeKind) {o : Origin} → OneOf not_directory (tag_of kinds.the_type k) → {b₀ b₁ : List ℕ} {at r : ℕ} → Put b₀ at (body_bytes img k) r b₁
-    → PutsBody img s k o b₀ at r b₁
-body-plain {img} k n a = record { puts = λ es h. rw (body-other img es k n) at a }
+pub body-plain : {s : Stack} (k : NodeKind) {o : Origin} → ((parent : ℕ) (p : Part) → k ≡ K.Directory parent p → ⊥) → {b₀ b₁ : List ℕ} {at r : ℕ}
+    → Put b₀ at (body_bytes s.img.now k) r b₁ → PutsBody s k o b₀ at r b₁
+body-plain {s} k n a = record { puts = λ es h. rw (body-other s.img.now es k n) at a }

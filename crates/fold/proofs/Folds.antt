@@ -17,13 +17,13 @@ use Rattle.rules.specs.Starts.{Placed, attributes_at, entries_at, changes_at, ad
 use Rattle.rules.specs.PlacedStacks.{unplaced, unplaced_node}
 use Rattle.rules.proofs.MapValues.{map_values, map-empty}
 use Rattle.rules.proofs.Folded.{folded}
-use Rattle.attrs.specs.Meant.{kind_meant}
-use Rattle.attrs.specs.declared.node.FileType.{FileType}
+use Rattle.image.specs.FileTypes.{kind_meant}
+use Rattle.image.specs.declared.kind.FileType.{FileType}
 use Rattle.merge.specs.Pile.{merged, itself}
 use Rattle.merge.proofs.Lists.{Deciding, source_of}
 use Rattle.gather.specs.Gathers.{removed_at, body_pile, node_pile, change_pile, alter_pile, delta_pile, record_pile, pile_of}
-use Rattle.gather.specs.declared.gather.Lists.{Lists}
-use Rattle.gather.specs.declared.gather.Lists.TheVariants as L
+use Rattle.gather.specs.declared.gather.Listing.{Listing}
+use Rattle.gather.specs.declared.gather.Listing.TheVariants as L
 use Rattle.apply.specs.Folded.{on_entries}
 use Rattle.fold.specs.Lists.{valued, inoded, merges}
 use Rattle.fold.proofs.Forgetting.{changes-forget, values-forget, added-forget, removed-forget, entries-forget}
@@ -89,18 +89,18 @@ gone e = absurd (let z : ◌≡◌ {A = ℕ} 0 1 = cc in omega arith)
 there : {A : Type 0} {m : M.Node} → Some m ≡ None → A
 there e = absurd (let z : ◌≡◌ {A = ℕ} 0 1 = cc in omega arith)
 
-no-base : (l : Lists) → node_pile l None ≡ []
+no-base : (l : Listing) → node_pile l None ≡ []
 no-base L.Entries = refl
 no-base L.Attributes = refl
-no-base (L.AttributesOf t) = refl
 
-no_node : (l : Lists) (rs : List (Placed Record)) (b : Option (Placed M.Node)) → folded usual (unplaced rs) (unplaced_node b) ≡ None → pile_of l rs b ≡ []
+no_node : (l : Listing) (of : Option FileType) (rs : List (Placed Record)) (b : Option (Placed M.Node)) → folded usual (unplaced rs) (unplaced_node b) ≡ None
+    → pile_of l of rs b ≡ []
 unfolding folded fold_record
-no_node l [] None h = no-base l
-no_node l [] (Some n) h = there h
-no_node l (r ∷ rs) b h = go r.held (folded usual (unplaced rs) (unplaced_node b)) h
+no_node l of [] None h = no-base l
+no_node l of [] (Some n) h = there h
+no_node l of (r ∷ rs) b h = go r.held (folded usual (unplaced rs) (unplaced_node b)) h
   where
-    go : (x : Record) (o : Option M.Node) → fold_record usual x o ≡ None → record_pile l r.place x (pile_of l rs b) ≡ []
+    go : (x : Record) (o : Option M.Node) → fold_record usual x o ≡ None → record_pile l of r.place x (pile_of l of rs b) ≡ []
     go tombstone o e = refl
     go (delta d) None e = there e
     go (delta d) (Some n) e = there e
@@ -108,7 +108,7 @@ no_node l (r ∷ rs) b h = go r.held (folded usual (unplaced rs) (unplaced_node 
 -- ---- attributes
 
 pub attributes-fold : (t : FileType) (rs : List (Placed Record)) (b : Option (Placed M.Node)) (m : M.Node) → folded usual (unplaced rs) (unplaced_node b) ≡ Some m → kind_meant t ≡ kind_of m.body
-    → map_values by_bytes valued (merges (pile_of (L.AttributesOf t) rs b)) ≡ m.meta.attributes
+    → map_values by_bytes valued (merges (pile_of L.Attributes (Some t) rs b)) ≡ m.meta.attributes
 unfolding folded fold_record merged
 attributes-fold t [] None m h k = gone h
 attributes-fold t [] (Some n) m h k =
@@ -117,20 +117,22 @@ attributes-fold t [] (Some n) m h k =
 attributes-fold t (r ∷ rs) b m h k = go r.held (folded usual (unplaced rs) (unplaced_node b)) refl h (attributes-fold t rs b)
   where
     below : List Deciding
-    below = pile_of (L.AttributesOf t) rs b
+    below = pile_of L.Attributes (Some t) rs b
 
     go : (x : Record) (o : Option M.Node) → folded usual (unplaced rs) (unplaced_node b) ≡ o → fold_record usual x o ≡ Some m
         → ((n : M.Node) → folded usual (unplaced rs) (unplaced_node b) ≡ Some n → kind_meant t ≡ kind_of n.body → map_values by_bytes valued (merges below) ≡ n.meta.attributes)
-        → map_values by_bytes valued (merges (record_pile (L.AttributesOf t) r.place x below)) ≡ m.meta.attributes
+        → map_values by_bytes valued (merges (record_pile L.Attributes (Some t) r.place x below)) ≡ m.meta.attributes
     go tombstone o e h ih = gone h
     go (delta d) None e h ih =
         let z : applied d (first_node usual d.change) ≡ m = cc in
         let kind : kind_meant t ≡ changed_kind d.change = k ∙ ap (λ (x : M.Node). kind_of x.body) (sym z) ∙ on-kind d.change (first_body d.change) ∙ first_kind d.change in
-        rw (kind, same_self (changed_kind d.change), no_node (L.AttributesOf t) rs b e, alter-fold r.place d.fields d.fields.attributes [], map-empty by_bytes valued) (ap (λ (x : M.Node). x.meta.attributes) z)
+        let none = no_node L.Attributes (Some t) rs b e in
+        rw (kind, same_self (changed_kind d.change), none, alter-fold r.place d.fields d.fields.attributes [], map-empty by_bytes valued)
+        (ap (λ (x : M.Node). x.meta.attributes) z)
     go (delta d) (Some n) e h ih = test (same_kind (changed_kind d.change) (kind_of n.body)) refl (ih n e)
       where
         test : (q : Bool) → same_kind (changed_kind d.change) (kind_of n.body) ≡ q → (kind_meant t ≡ kind_of n.body → map_values by_bytes valued (merges below) ≡ n.meta.attributes)
-            → map_values by_bytes valued (merges (delta_pile (L.AttributesOf t) r.place d ++ below)) ≡ m.meta.attributes
+            → map_values by_bytes valued (merges (delta_pile L.Attributes (Some t) r.place d ++ below)) ≡ m.meta.attributes
         test true q ih =
             let z : applied d n ≡ m = let y = rw q at h in cc in
             let kind : kind_meant t ≡ kind_of n.body = k ∙ ap (λ (x : M.Node). kind_of x.body) (sym z) ∙ on-kind d.change n.body in
@@ -180,25 +182,27 @@ other_entries (file n) b es s k = refl
 other_entries (symlink t) b es s k = refl
 other_entries (special x device) b es s k = refl
 
-pub entries-fold : (rs : List (Placed Record)) (b : Option (Placed M.Node)) (m : M.Node) → folded usual (unplaced rs) (unplaced_node b) ≡ Some m → kind_of m.body ≡ directory
-    → map_values by_bytes inoded (merges (pile_of L.Entries rs b)) ≡ entries_in m.body
+pub entries-fold : (of : Option FileType) (rs : List (Placed Record)) (b : Option (Placed M.Node)) (m : M.Node)
+    → folded usual (unplaced rs) (unplaced_node b) ≡ Some m → kind_of m.body ≡ directory
+    → map_values by_bytes inoded (merges (pile_of L.Entries of rs b)) ≡ entries_in m.body
 unfolding folded fold_record merged
-entries-fold [] None m h k = gone h
-entries-fold [] (Some n) m h k =
+entries-fold of [] None m h k = gone h
+entries-fold of [] (Some n) m h k =
     let z : n.held ≡ m = cc in
     body-fold n.place n.held.meta n.held.body ∙ ap (λ (x : M.Node). entries_in x.body) z
-entries-fold (r ∷ rs) b m h k = go r.held (folded usual (unplaced rs) (unplaced_node b)) refl h (entries-fold rs b)
+entries-fold of (r ∷ rs) b m h k = go r.held (folded usual (unplaced rs) (unplaced_node b)) refl h (entries-fold of rs b)
   where
     below : List Deciding
-    below = pile_of L.Entries rs b
+    below = pile_of L.Entries of rs b
 
     go : (x : Record) (o : Option M.Node) → folded usual (unplaced rs) (unplaced_node b) ≡ o → fold_record usual x o ≡ Some m
         → ((n : M.Node) → folded usual (unplaced rs) (unplaced_node b) ≡ Some n → kind_of n.body ≡ directory → map_values by_bytes inoded (merges below) ≡ entries_in n.body)
-        → map_values by_bytes inoded (merges (record_pile L.Entries r.place x below)) ≡ entries_in m.body
+        → map_values by_bytes inoded (merges (record_pile L.Entries of r.place x below)) ≡ entries_in m.body
     go tombstone o e h ih = gone h
     go (delta d) None e h ih =
         let z : applied d (first_node usual d.change) ≡ m = cc in
-        rw (no_node L.Entries rs b e, change-fold r.place d.fields d.change [], map-empty by_bytes inoded) (first-entries d.change ∙ ap (λ (x : M.Node). entries_in x.body) z)
+        rw (no_node L.Entries of rs b e, change-fold r.place d.fields d.change [], map-empty by_bytes inoded)
+        (first-entries d.change ∙ ap (λ (x : M.Node). entries_in x.body) z)
     go (delta d) (Some n) e h ih = test (same_kind (changed_kind d.change) (kind_of n.body)) refl (ih n e)
       where
         test : (q : Bool) → same_kind (changed_kind d.change) (kind_of n.body) ≡ q → (kind_of n.body ≡ directory → map_values by_bytes inoded (merges below) ≡ entries_in n.body)

@@ -5,8 +5,7 @@ use mathlib.Core.Path.{◌≡◌, refl, sym, ap, ◌∙◌}
 use mathlib.Core.List.{List, [], ◌∷◌, map}
 use Prim.Native.Nat.{ℕ, ◌+◌, ◌*◌, ◌≤◌}
 use native.Mathlib.Omega.{arith}
-use lib.ListN.{length, take, length-map}
-use lib.Seq.{length-take-le}
+use lib.ListN.{length, length-map, length-take}
 use Rattle.std.specs.declared.cmp.Ordering.{Ordering}
 use Rattle.std.specs.declared.cmp.Ordering.TheVariants.{Less, Equal, Greater}
 use Rattle.wire.specs.Order.{Order}
@@ -15,23 +14,22 @@ use Rattle.wire.specs.Rows.{choose, lookup, place, insert, remove, set}
 use Rattle.wire.specs.Lists.{Every, chain_write, row, onto, last_count}
 use Rattle.image.specs.Meaning.{Text, Entries, Attributes}
 use Rattle.image.specs.FieldLayout.{name, inode, value, attributes, entries}
-use Rattle.survey.specs.declared.batch.InodeLayerStack.{InodeLayerStack}
+use Rattle.image.specs.Meaning.{Node, Record, tombstone, delta}
+use Rattle.image.specs.declared.kind.FileType.{FileType}
+use Rattle.rules.specs.Starts.{Placed}
 use Rattle.rules.proofs.MapValues.{map_row, map_rows}
-use Rattle.attrs.specs.declared.node.FileType.{FileType}
 use Rattle.stack.specs.Stacks.{records_in, node_in}
+use Rattle.stack.specs.declared.stack.Stack.{Stack}
 use Rattle.merge.specs.Pile.{laid, pile, total, itself, decisions}
-use Rattle.merge.specs.Sources.{Given, Decided, source_rows}
-use Rattle.merge.specs.Merges.{sources_of, given_by}
-use Rattle.merge.specs.Slots.{sources_in}
-use Rattle.merge.proofs.Merging.{all-long}
-use Rattle.merge.specs.declared.merge.Sources.{Sources}
+use Rattle.merge.specs.Sources.{Given, Decided}
+use Rattle.merge.specs.Merges.{listed, sources_of, given_by}
+use Rattle.merge.specs.declared.sources.Sources.{Sources}
 use Rattle.merge.proofs.Piles.{pile-merged}
-use Rattle.gather.specs.Gathers.{pile_of, Short, Gathers}
-use Rattle.gather.specs.declared.gather.Lists.{Lists}
-use Rattle.gather.specs.declared.gather.Lists.TheVariants as L
+use Rattle.gather.specs.Gathers.{record_pile, pile_of, pile_in, Short, Gathers}
+use Rattle.gather.specs.declared.gather.Listing.{Listing}
+use Rattle.gather.specs.declared.gather.Listing.TheVariants as L
 use Rattle.gather.proofs.Gathering.{gathered-ready}
-use Rattle.fold.specs.Lists.{rows_given, list_given, Few, valued, inoded, merges, attributes_of, entries_of}
-use Rattle.fold.specs.declared.list.NameList.TheVariants as N
+use Rattle.fold.specs.Lists.{rows_given, list_given, Few, valued, inoded, merges, attributes_of, entries_of, merged_bytes}
 
 -- ---- how many rows there are at most
 
@@ -77,47 +75,59 @@ unfolding total
 total-short [] h = omega arith
 total-short (s ∷ ss) h = omega (arith, h.0, total-short ss h.1)
 
-module _ {img : List ℕ} {s : InodeLayerStack} {l : Lists} {r : Sources} (g : Gathers img s l r) where
-  pub gathered-few : Few img r
+module _ {s : Stack} {l : Listing} {of : Option FileType} {r : Sources} (g : Gathers s l of r) where
+  pub gathered-few : Few s.img.now r
   gathered-few = record {
     ready = gathered-ready g;
     few =
-        let n : length (sources_of img r) ≤ 35 = rw (length-map (take r.count (sources_in r.rows)) (source_rows img), length-take-le r.count (sources_in r.rows) (omega (arith, all-long g.whole, g.whole.few))) g.whole.few in
-        omega (arith, pile-few by_bytes (itself by_bytes) (sources_of img r), total-short (sources_of img r) g.short, n);
+        let ss = sources_of s.img.now (listed r) in
+        let few = r.few in
+        let n : length ss ≤ 35 = rw length-map (rw length-take (omega arith)) in
+        omega (arith, pile-few by_bytes (itself by_bytes) ss, total-short ss g.short, n);
   }
 
-  gathered-gives : given_by img r ≡ (merges (pile_of l (records_in img s) (node_in img s))).rows
-  gathered-gives = ap (decisions by_bytes) g.are ∙ pile-merged by_bytes (itself by_bytes) (pile_of l (records_in img s) (node_in img s))
+  gathered-gives : given_by s.img.now (listed r) ≡ (merges (pile_in l of s)).rows
+  gathered-gives = ap (decisions by_bytes) g.are ∙ pile-merged by_bytes (itself by_bytes) (pile_in l of s)
+
+-- entries are of directories alone, whatever type is given
+entries-any : (of : Option FileType) (rs : List (Placed Record)) (b : Option (Placed Node)) → pile_of L.Entries of rs b ≡ pile_of L.Entries None rs b
+entries-any of [] b = refl
+entries-any of (r ∷ rs) b = go r.held (entries-any of rs b)
+  where
+    go : (h : Record) → pile_of L.Entries of rs b ≡ pile_of L.Entries None rs b
+        → record_pile L.Entries of r.place h (pile_of L.Entries of rs b) ≡ record_pile L.Entries None r.place h (pile_of L.Entries None rs b)
+    go tombstone e = refl
+    go (delta d) e = rw e
 
 -- ---- as they are written
 
 rows-valued : (prev : Option Text) (es : List (Text × (ℕ × Given)))
-    → rows_given N.Attributes es ≡ chain_write (row by_bytes name value) (onto by_bytes name value) prev (map (map_row by_bytes valued) es)
+    → rows_given L.Attributes es ≡ chain_write (row by_bytes name value) (onto by_bytes name value) prev (map (map_row by_bytes valued) es)
 unfolding rows_given
 rows-valued prev [] = refl
 rows-valued prev (e ∷ es) = rw (rows-valued (Some e.0) es)
 
 rows-inoded : (prev : Option Text) (es : List (Text × (ℕ × Given)))
-    → rows_given N.Entries es ≡ chain_write (row by_bytes name inode) (onto by_bytes name inode) prev (map (map_row by_bytes inoded) es)
+    → rows_given L.Entries es ≡ chain_write (row by_bytes name inode) (onto by_bytes name inode) prev (map (map_row by_bytes inoded) es)
 unfolding rows_given
 rows-inoded prev [] = refl
 rows-inoded prev (e ∷ es) = rw (rows-inoded (Some e.0) es)
 
-attributes-written : (es : List (Text × (ℕ × Given))) (m : Attributes) → map (map_row by_bytes valued) es ≡ m.rows → list_given N.Attributes es ≡ attributes.write m
+attributes-written : (es : List (Text × (ℕ × Given))) (m : Attributes) → map (map_row by_bytes valued) es ≡ m.rows
+    → list_given L.Attributes es ≡ attributes.write m
 attributes-written es m h = rw (rows-valued None es, ← (length-map es (map_row by_bytes valued)), h)
 
-entries-written : (es : List (Text × (ℕ × Given))) (m : Entries) → map (map_row by_bytes inoded) es ≡ m.rows → list_given N.Entries es ≡ entries.write m
+entries-written : (es : List (Text × (ℕ × Given))) (m : Entries) → map (map_row by_bytes inoded) es ≡ m.rows → list_given L.Entries es ≡ entries.write m
 entries-written es m h = rw (rows-inoded None es, ← (length-map es (map_row by_bytes inoded)), h)
 
 -- ---- the lists of a stack
 
-module _ {img : List ℕ} {s : InodeLayerStack} {r : Sources} where
-  pub attributes-given : (t : FileType) → Gathers img s (L.AttributesOf t) r → list_given N.Attributes (given_by img r) ≡ attributes.write (attributes_of img s t)
-  attributes-given t g =
-      let m = merges (pile_of (L.AttributesOf t) (records_in img s) (node_in img s)) in
-      rw (gathered-gives g) (attributes-written m.rows (attributes_of img s t) (sym (map_rows by_bytes valued m)))
-
-  pub entries-given : Gathers img s L.Entries r → list_given N.Entries (given_by img r) ≡ entries.write (entries_of img s)
-  entries-given g =
-      let m = merges (pile_of L.Entries (records_in img s) (node_in img s)) in
-      rw (gathered-gives g) (entries-written m.rows (entries_of img s) (sym (map_rows by_bytes inoded m)))
+pub merged-given : {s : Stack} {r : Sources} (l : Listing) (t : FileType) → Gathers s l (Some t) r
+    → list_given l (given_by s.img.now (listed r)) ≡ merged_bytes l s t
+merged-given {s} L.Entries t g =
+    let m = merges (pile_in L.Entries None s) in
+    let z = entries-any (Some t) (records_in s.img.now s.places) (node_in s.img.now s.places) in
+    rw (gathered-gives g, z) (entries-written m.rows (entries_of s) (sym (map_rows by_bytes inoded m)))
+merged-given {s} L.Attributes t g =
+    let m = merges (pile_in L.Attributes (Some t) s) in
+    rw (gathered-gives g) (attributes-written m.rows (attributes_of s t) (sym (map_rows by_bytes valued m)))

@@ -13,7 +13,6 @@ use Rattle.image.specs.Under.{UnderName}
 use Rattle.image.specs.declared.name.Under.{Under}
 use Rattle.image.specs.declared.name.Under.TheVariants as U
 use Rattle.image.specs.NodeLayout.{body_part, body_part_of, node}
-use Rattle.survey.specs.declared.batch.InodeLayerStack.{InodeLayerStack}
 use Rattle.rules.specs.Initial.{usual}
 use Rattle.rules.specs.Fold.{fold_record, same_kind, applied}
 use Rattle.rules.specs.PlacedStacks.{node_at, unplaced, unplaced_node}
@@ -27,9 +26,10 @@ use Rattle.deltas.specs.declared.delta.EntryDelta.{EntryDelta}
 use Rattle.deltas.specs.declared.delta.EntryDelta.TheVariants as E
 use Rattle.nodes.specs.declared.node.NodeKind.{NodeKind}
 use Rattle.nodes.specs.declared.node.NodeKind.TheVariants as K
-use Rattle.attrs.specs.Meant.{kind_meant}
-use Rattle.attrs.specs.declared.node.FileType.{FileType}
-use Rattle.stack.specs.Stacks.{Stacked, records_in, node_in, BaseIs}
+use Rattle.image.specs.FileTypes.{kind_meant}
+use Rattle.image.specs.declared.kind.FileType.{FileType}
+use Rattle.stack.specs.Stacks.{records_in, node_in, BaseIs}
+use Rattle.stack.specs.declared.stack.Stack.{Stack}
 use Rattle.apply.specs.Folded.{body_with, node_with, on_attributes, on_entries}
 use Rattle.fold.specs.Lists.{attributes_of, entries_of}
 use Rattle.fold.specs.declared.folded.Origin.{Origin}
@@ -89,18 +89,17 @@ pub record FoldsRecord (e : EntryDelta) (o r : Option Folded) : Type 0 where
   pub makes : (img : List ℕ) (m : Option M.Node) → ShowsIf img o m → ShowsIf img r (fold_record usual (entry_meant img e) m)
 
 -- "Delta on nothing: a node of initial values, then applied."
-abbrev pub StartsNode : NodeDelta → Option Folded → Type 0
-StartsNode d r = FoldsRecord (E.Node d) None r
+abbrev pub StartsNode : NodeDelta → Folded → Type 0
+StartsNode d r = FoldsRecord (E.Node d) None (Some r)
 
 -- ---- the node of a stack
 
-abbrev pub folded_in : List ℕ → InodeLayerStack → Option M.Node
-folded_in img s = folded usual (unplaced (records_in img s)) (unplaced_node (node_in img s))
+abbrev pub folded_in : Stack → Option M.Node
+folded_in s = folded usual (unplaced (records_in s.img.now s.places)) (unplaced_node (node_in s.img.now s.places))
 
 -- the stack has this node
-pub record FoldsTo (img : List ℕ) (s : InodeLayerStack) (f : Folded) : Type 0 where
-  pub stacked : Stacked img s
-  pub shows : ShowsIf img (Some f) (folded_in img s)
+abbrev pub FoldsTo : Stack → Folded → Type 0
+FoldsTo s f = ShowsIf s.img.now (Some f) (folded_in s)
 
 -- ---- what is written
 
@@ -115,17 +114,18 @@ abbrev pub body_written : List ℕ → NodeKind → Entries → List ℕ
 body_written img k es = (body_part (kind_of (body_with img k es))).write (body_part_of (body_with img k es))
 
 -- with entries whose bytes are these
-pub record PutsBody (img : List ℕ) (s : InodeLayerStack) (k : NodeKind) (o : Origin) (old : List ℕ) (at r : ℕ) (new : List ℕ) : Type 0 where
-  pub puts : (es : Entries) → (kind_of (body_with img k es) ≡ directory → origin_bytes img o (entries.write (entries_of img s)) ≡ entries.write es) → Put old at (body_written img k es) r new
+pub record PutsBody (s : Stack) (k : NodeKind) (o : Origin) (old : List ℕ) (at r : ℕ) (new : List ℕ) : Type 0 where
+  pub puts : (es : Entries) → (kind_of (body_with s.img.now k es) ≡ directory → origin_bytes s.img.now o (entries.write (entries_of s)) ≡ entries.write es)
+      → Put old at (body_written s.img.now k es) r new
 
 abbrev pub bytes_if : Option M.Node → List ℕ
 bytes_if None = []
 bytes_if (Some m) = node.write m
 
 -- a node with lists whose bytes are these; the stack's attributes are of its own kind
-pub record Merged (img : List ℕ) (s : InodeLayerStack) (f : Folded) (old : List ℕ) (at r : ℕ) (new : List ℕ) : Type 0 where
+pub record Merged (s : Stack) (f : Folded) (old : List ℕ) (at r : ℕ) (new : List ℕ) : Type 0 where
   pub type : FileType
   pub same : (m : List ℕ) → kind_meant type ≡ kind_of (body_meant m f.node.kind)
-  pub puts : (vs : Attributes) (es : Entries) → origin_bytes img f.attributes (attributes.write (attributes_of img s type)) ≡ attributes.write vs
-      → (kind_of (body_with img f.node.kind es) ≡ directory → origin_bytes img f.entries (entries.write (entries_of img s)) ≡ entries.write es)
-      → Put old at (node.write (node_with img f.node vs es)) r new
+  pub puts : (vs : Attributes) (es : Entries) → origin_bytes s.img.now f.attributes (attributes.write (attributes_of s type)) ≡ attributes.write vs
+      → (kind_of (body_with s.img.now f.node.kind es) ≡ directory → origin_bytes s.img.now f.entries (entries.write (entries_of s)) ≡ entries.write es)
+      → Put old at (node.write (node_with s.img.now f.node vs es)) r new

@@ -1,23 +1,20 @@
 // The node of a stack with its records folded in, and how it is written.
 ghost use Rattle.std.specs.Prelude.{◌≡◌};
 ghost use Rattle.wire.specs.Put.{Put};
-ghost use Rattle.image.specs.FieldLayout.{attributes as attributeList, entries as entryList};
-ghost use Rattle.stack.specs.Stacks.{Stacked};
-ghost use Rattle.fold.specs.Lists.{attributes_of, entries_of};
+ghost use Rattle.fold.specs.Lists.{merged_bytes};
 ghost use Rattle.fold.specs.FoldedNodes.{AttributesAfter, EntriesAfter, FoldsDelta, StartsNode, FoldsRecord, entries_from, FoldsBase, ShowsIf, folded_in, FoldsTo, origin_bytes, PutsBody, bytes_if};
 
-use crate::list::{put_attributes, put_entries};
+use crate::list::put_merged;
 use apply::node::{apply_to_node, initial_node};
-use attrs::node::{FileType, kind_type};
 use deltas::delta::{EntryDelta, NodeDelta, attr_delta};
-use gather::gather::of_type;
+use gather::gather::{Listing, of_type};
+use image::kind::FileType;
 use nodes::node::{Node, NodeKind};
-use records::write_node::{kind_number, put_body};
-use stack::stack::{base_node, record_at};
-use survey::batch::InodeLayerStack;
+use records::write_node::put_body;
+use stack::stack::Stack;
 use wire::number::put_number;
+use wire::part::Part;
 use wire::put::put_part;
-use wire::text::Part;
 use writers::write_attr::put_inode_meta;
 
 // Where a list of a folded node comes from.
@@ -43,9 +40,7 @@ pub struct Folded {
 fn attributes_after(delta: NodeDelta, origin: Origin) -> Origin
     ensures { AttributesAfter delta origin result }
 {
-    let attr = attr_delta(delta);
-    let xattrs = attr.xattrs;
-    match xattrs {
+    match attr_delta(delta).xattrs {
         Some(_) => Origin::Merged,
         None => origin,
     }
@@ -65,31 +60,25 @@ fn entries_after(delta: NodeDelta, origin: Origin) -> Origin
 fn fold_delta(delta: NodeDelta, below: Folded) -> Folded
     ensures { FoldsDelta delta below result }
 {
-    let node = below.node;
-    let kind = node.kind;
-    let attributes = below.attributes;
-    let entries = below.entries;
-    if of_type(delta, kind_type(kind)) {
+    if of_type(delta, below.node.kind.file_type()) {
         return Folded {
-            node: apply_to_node(delta, node),
-            attributes: attributes_after(delta, attributes),
-            entries: entries_after(delta, entries),
+            node: apply_to_node(delta, below.node),
+            attributes: attributes_after(delta, below.attributes),
+            entries: entries_after(delta, below.entries),
         };
     }
     below
 }
 
 // A delta on nothing starts a node of initial values without lists, and is applied.
-fn start_node(delta: NodeDelta) -> Option<Folded>
+fn start_node(delta: NodeDelta) -> Folded
     ensures { StartsNode delta result }
 {
-    let first = initial_node(delta);
-    let nothing = Origin::Nothing;
-    Some(Folded {
-        node: apply_to_node(delta, first),
-        attributes: attributes_after(delta, nothing),
-        entries: entries_after(delta, nothing),
-    })
+    Folded {
+        node: apply_to_node(delta, initial_node(delta)),
+        attributes: attributes_after(delta, Origin::Nothing),
+        entries: entries_after(delta, Origin::Nothing),
+    }
 }
 
 // A tombstone clears.
@@ -99,7 +88,7 @@ fn fold_record(entry: EntryDelta, below: Option<Folded>) -> Option<Folded>
     match entry {
         EntryDelta::Node(delta) => match below {
             Some(node) => Some(fold_delta(delta, node)),
-            None => start_node(delta),
+            None => Some(start_node(delta)),
         },
         EntryDelta::Tombstone => None,
     }
@@ -120,67 +109,41 @@ fn fold_base(base: Option<Node>) -> Option<Folded>
     ensures { FoldsBase base result }
 {
     match base {
-        Some(node) => {
-            let meta = node.meta;
-            let xattrs = meta.xattrs;
-            let kind = node.kind;
-            Some(Folded {
-                node,
-                attributes: Origin::Base(xattrs),
-                entries: entries_in(kind),
-            })
-        }
+        Some(node) => Some(Folded {
+            node,
+            attributes: Origin::Base(node.meta.xattrs),
+            entries: entries_in(node.kind),
+        }),
         None => None,
     }
 }
 
 // From the bottom: the base node, and what each record makes of it.
-pub fn folded_node(img: &[u8], stack: InodeLayerStack) -> Option<Folded>
-    requires { Stacked img.now stack }
-    ensures { ShowsIf img.now result (folded_in img.now stack) }
+pub fn folded_node(stack: Stack) -> Option<Folded>
+    ensures { ShowsIf stack.entry.img.now result (folded_in stack.entry) }
 {
-    let mut node = fold_base(base_node(img, stack));
-    for i in 0..stack.count {
-        let entry = record_at(img, stack, i);
-        node = fold_record(entry, node);
+    let mut node = fold_base(stack.base());
+    for i in 0..stack.places.count {
+        node = fold_record(stack.record(i), node);
     }
     node
 }
 
-// Writes the attributes of a node of the type.
-fn put_folded_attributes(
+// Writes a list of a node of the type.
+fn put_folded_list(
     buf: &mut [u8],
     at: usize,
-    img: &[u8],
-    stack: InodeLayerStack,
+    stack: Stack,
+    listing: Listing,
     file_type: FileType,
     origin: Origin,
 ) -> usize
-    requires { Stacked img.now stack }
-    ensures { Put buf.old at (origin_bytes img.now origin (attributeList.write (attributes_of img.now stack file_type))) result buf.new }
+    ensures { Put buf.old at (origin_bytes stack.entry.img.now origin (merged_bytes listing stack.entry file_type)) result buf.new }
 {
     match origin {
-        Origin::Base(part) => put_part(buf, at, img, part.start, part.length),
+        Origin::Base(part) => put_part(buf, at, stack.img, part),
         Origin::Nothing => put_number(buf, at, 0),
-        Origin::Merged => put_attributes(buf, at, img, stack, file_type),
-    }
-}
-
-// Writes the entries of a directory.
-fn put_folded_entries(
-    buf: &mut [u8],
-    at: usize,
-    img: &[u8],
-    stack: InodeLayerStack,
-    origin: Origin,
-) -> usize
-    requires { Stacked img.now stack }
-    ensures { Put buf.old at (origin_bytes img.now origin (entryList.write (entries_of img.now stack))) result buf.new }
-{
-    match origin {
-        Origin::Base(part) => put_part(buf, at, img, part.start, part.length),
-        Origin::Nothing => put_number(buf, at, 0),
-        Origin::Merged => put_entries(buf, at, img, stack),
+        Origin::Merged => put_merged(buf, at, stack, listing, file_type),
     }
 }
 
@@ -188,42 +151,38 @@ fn put_folded_entries(
 fn put_folded_body(
     buf: &mut [u8],
     at: usize,
-    img: &[u8],
-    stack: InodeLayerStack,
+    stack: Stack,
     kind: NodeKind,
     entries: Origin,
 ) -> usize
-    requires { Stacked img.now stack }
-    ensures { PutsBody img.now stack kind entries buf.old at result buf.new }
+    ensures { PutsBody stack.entry kind entries buf.old at result buf.new }
 {
     match kind {
         NodeKind::Directory { parent, entries: _ } => {
             let list = put_number(buf, at, parent);
-            put_folded_entries(buf, list, img, stack, entries)
+            put_folded_list(
+                buf,
+                list,
+                stack,
+                Listing::Entries,
+                FileType::Directory,
+                entries,
+            )
         }
-        _ => put_body(buf, at, img, kind),
+        _ => put_body(buf, at, stack.img, kind),
     }
 }
 
 // Writes the node that fold makes of the stack, from its kind on.
-pub fn put_folded(
-    buf: &mut [u8],
-    at: usize,
-    img: &[u8],
-    stack: InodeLayerStack,
-    folded: Folded,
-) -> usize
-    requires { FoldsTo img.now stack folded }
-    ensures { Put buf.old at (bytes_if (folded_in img.now stack)) result buf.new }
+pub fn put_folded(buf: &mut [u8], at: usize, stack: Stack, folded: Folded) -> usize
+    requires { FoldsTo stack folded }
+    ensures { Put buf.old at (bytes_if (folded_in stack.entry)) result buf.new }
 {
-    let node = folded.node;
+    let kind = folded.node.kind;
+    let file_type = kind.file_type();
+    let start = put_number(buf, at, file_type.number());
+    let list = put_inode_meta(buf, start, folded.node.meta);
     let attributes = folded.attributes;
-    let entries = folded.entries;
-    let meta = node.meta;
-    let kind = node.kind;
-    let file_type = kind_type(kind);
-    let start = put_number(buf, at, kind_number(kind));
-    let list = put_inode_meta(buf, start, meta);
-    let body = put_folded_attributes(buf, list, img, stack, file_type, attributes);
-    put_folded_body(buf, body, img, stack, kind, entries)
+    let body = put_folded_list(buf, list, stack, Listing::Attributes, file_type, attributes);
+    put_folded_body(buf, body, stack, kind, folded.entries)
 }

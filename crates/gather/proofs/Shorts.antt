@@ -1,6 +1,6 @@
 -- No list of a stack has more rows than a count can say.
 -- Assumes nothing.
-use Rattle.wire.specs.declared.text.Part.{Part}
+use Rattle.wire.specs.declared.part.Part.{Part}
 use Rattle.std.specs.Prelude.{None, Option, Some}
 use mathlib.Core.Path.{◌≡◌, refl}
 use mathlib.Core.Bool.{Bool, true, false, cond}
@@ -12,13 +12,13 @@ use Rattle.wire.specs.Parse.{Parsed, fault, got}
 use Rattle.wire.specs.Combinators.{◌then◌}
 use Rattle.wire.specs.Number.{number_bytes, number_read}
 use Rattle.wire.specs.Lists.{Every, last_count}
-use Rattle.image.specs.Meaning.{Text, changed_kind}
+use Rattle.image.specs.Meaning.{Text}
 use Rattle.image.specs.FieldLayout.{name}
 use Rattle.image.specs.Under.{UnderName, under}
 use Rattle.image.specs.declared.name.Under.{Under}
 use Rattle.image.specs.declared.name.Under.TheVariants as U
-use Rattle.rules.specs.Fold.{same_kind}
-use Rattle.attrs.specs.Meant.{kind_meant}
+use Rattle.image.specs.declared.kind.FileType.{FileType}
+use Rattle.merge.specs.Merges.{lists_if}
 use Rattle.deltas.specs.declared.delta.NodeDelta.{NodeDelta}
 use Rattle.deltas.specs.declared.delta.NodeDelta.TheVariants as D
 use Rattle.nodes.specs.declared.node.Node.{Node}
@@ -26,10 +26,10 @@ use Rattle.nodes.specs.declared.node.NodeKind.{NodeKind}
 use Rattle.nodes.specs.declared.node.NodeKind.TheVariants as K
 use Rattle.deltas.specs.Deltas.{attr_of, change_meant}
 use Rattle.merge.specs.Sources.{Decided, decided, rows_if, rows_from, list_rows}
-use Rattle.gather.specs.Lists.{change_lists, alter_lists, delta_lists, entry_lists, node_lists, base_lists}
+use Rattle.gather.specs.Lists.{is_of, change_lists, delta_lists, entry_lists, node_lists, base_lists}
 use Rattle.gather.specs.Gathers.{Short}
-use Rattle.gather.specs.declared.gather.Lists.{Lists}
-use Rattle.gather.specs.declared.gather.Lists.TheVariants as L
+use Rattle.gather.specs.declared.gather.Listing.{Listing}
+use Rattle.gather.specs.declared.gather.Listing.TheVariants as L
 use Rattle.wire.proofs.NumberForms.{number-forth}
 
 pub every_append : {A : Type 0} (P : A → Type 0) (xs ys : List A) → Every P xs → Every P ys → Every P (xs ++ ys)
@@ -66,18 +66,14 @@ module _ (img : List ℕ) where
   change-short (D.BlockDevice d) = tt
   change-short (D.Socket d) = tt
 
-  alter-short : (o : Option Part) → Every Short (alter_lists img o)
-  alter-short (Some p) = (list-few img U.Change p.start, tt)
-  alter-short None = tt
+  alter-short : (b : Bool) (o : Option Part) → Every Short (cond b (lists_if img U.Change o) [])
+  alter-short true (Some p) = (list-few img U.Change p.start, tt)
+  alter-short true None = tt
+  alter-short false o = tt
 
-  pub delta-short : (l : Lists) (n : NodeDelta) → Every Short (delta_lists img l n)
-  delta-short L.Entries n = change-short n
-  delta-short L.Attributes n = alter-short (attr_of n).xattrs
-  delta-short (L.AttributesOf t) n = go (same_kind (changed_kind (change_meant img n)) (kind_meant t))
-    where
-      go : (b : Bool) → Every Short (cond b (alter_lists img (attr_of n).xattrs) [])
-      go true = alter-short (attr_of n).xattrs
-      go false = tt
+  pub delta-short : (l : Listing) (of : Option FileType) (n : NodeDelta) → Every Short (delta_lists img l of n)
+  delta-short L.Entries of n = change-short n
+  delta-short L.Attributes of n = alter-short (is_of of (change_meant img n)) (attr_of n).xattrs
 
   entry-short : (k : NodeKind) → Every Short (entry_lists img k)
   entry-short (K.Directory parent es) = (list-few img U.Inode es.start, tt)
@@ -88,11 +84,10 @@ module _ (img : List ℕ) where
   entry-short (K.BlockDevice rdev) = tt
   entry-short K.Socket = tt
 
-  node-short : (l : Lists) (n : Node) → Every Short (node_lists img l n)
+  node-short : (l : Listing) (n : Node) → Every Short (node_lists img l n)
   node-short L.Entries n = entry-short n.kind
   node-short L.Attributes n = (list-few img U.Value n.meta.xattrs.start, tt)
-  node-short (L.AttributesOf t) n = (list-few img U.Value n.meta.xattrs.start, tt)
 
-  pub base_short : (l : Lists) (o : Option Node) → Every Short (base_lists img l o)
+  pub base_short : (l : Listing) (o : Option Node) → Every Short (base_lists img l o)
   base_short l (Some n) = node-short l n
   base_short l None = tt

@@ -1,21 +1,21 @@
 -- The sources of a placed stack, the topmost first. Document 01, listing: "From the bottom: tombstone clears, a directory delta removes then
 -- adds, other kinds do nothing"; extended attributes: "the first delta naming it decides (set or removed), then the base".
 use Rattle.std.specs.Prelude.{◌≡◌, cond, List, [], ◌∷◌, ◌++◌, ℕ, ◌+◌, ◌≤◌, length, None, Option, Some}
-use Rattle.image.specs.Meaning.{Entries, Body, Meta, Node, Changes, Fields, Change, Delta, Record, directory, file, symlink, special, tombstone, delta, changed_kind}
+use Rattle.image.specs.Meaning.{Entries, Body, Meta, Node, Changes, Fields, Change, Delta, Record, directory, file, symlink, special, tombstone, delta}
 use Rattle.image.specs.FieldLayout.{entries}
+use Rattle.image.specs.declared.kind.FileType.{FileType}
 use Rattle.image.specs.declared.name.Under.TheVariants as U
-use Rattle.survey.specs.declared.batch.InodeLayerStack.{InodeLayerStack}
 use Rattle.rules.specs.Starts.{Placed, attributes_at, entries_at, changes_at, added_at}
-use Rattle.rules.specs.Fold.{same_kind}
-use Rattle.attrs.specs.Meant.{kind_meant}
 use Rattle.wire.specs.Lists.{Every, last_count}
 use Rattle.merge.specs.Sources.{Decided}
-use Rattle.merge.specs.Merges.{sources_of, Whole}
+use Rattle.merge.specs.Merges.{listed, sources_of}
 use Rattle.merge.proofs.Lists.{Deciding, pile_rows, source_of}
-use Rattle.merge.specs.declared.merge.Sources.{Sources}
+use Rattle.merge.specs.declared.sources.Sources.{Sources}
 use Rattle.stack.specs.Stacks.{records_in, node_in}
-use Rattle.gather.specs.declared.gather.Lists.{Lists}
-use Rattle.gather.specs.declared.gather.Lists.TheVariants as L
+use Rattle.stack.specs.declared.stack.Stack.{Stack}
+use Rattle.gather.specs.Lists.{is_of}
+use Rattle.gather.specs.declared.gather.Listing.{Listing}
+use Rattle.gather.specs.declared.gather.Listing.TheVariants as L
 
 -- the removed names stand after the added entries
 abbrev pub removed_at : ℕ → Fields → Option ℕ → Entries → ℕ
@@ -30,11 +30,10 @@ body_pile p m (special device) = []
 abbrev pub value_pile : ℕ → Meta → List Deciding
 value_pile p m = source_of U.Value (attributes_at p m) m.attributes ∷ []
 
-abbrev pub node_pile : Lists → Option (Placed Node) → List Deciding
+abbrev pub node_pile : Listing → Option (Placed Node) → List Deciding
 node_pile l None = []
 node_pile L.Entries (Some n) = body_pile n.place n.held.meta n.held.body
 node_pile L.Attributes (Some n) = value_pile n.place n.held.meta
-node_pile (L.AttributesOf t) (Some n) = value_pile n.place n.held.meta
 
 -- "a directory delta removes then adds, other kinds do nothing"
 abbrev pub change_pile : ℕ → Fields → Change → List Deciding
@@ -47,26 +46,28 @@ abbrev pub alter_pile : ℕ → Fields → Option Changes → List Deciding
 alter_pile p f None = []
 alter_pile p f (Some cs) = source_of U.Change (changes_at p f cs) cs ∷ []
 
-abbrev pub delta_pile : Lists → ℕ → Delta → List Deciding
-delta_pile L.Entries p d = change_pile p d.fields d.change
-delta_pile L.Attributes p d = alter_pile p d.fields d.fields.attributes
-delta_pile (L.AttributesOf t) p d = cond (same_kind (changed_kind d.change) (kind_meant t)) (alter_pile p d.fields d.fields.attributes) []
+abbrev pub delta_pile : Listing → Option FileType → ℕ → Delta → List Deciding
+delta_pile L.Entries of p d = change_pile p d.fields d.change
+delta_pile L.Attributes of p d = cond (is_of of d.change) (alter_pile p d.fields d.fields.attributes) []
 
 -- "tombstone clears"
-abbrev pub record_pile : Lists → ℕ → Record → List Deciding → List Deciding
-record_pile l p tombstone below = []
-record_pile l p (delta d) below = delta_pile l p d ++ below
+abbrev pub record_pile : Listing → Option FileType → ℕ → Record → List Deciding → List Deciding
+record_pile l of p tombstone below = []
+record_pile l of p (delta d) below = delta_pile l of p d ++ below
 
-abbrev pub pile_of : Lists → List (Placed Record) → Option (Placed Node) → List Deciding
-pile_of l [] b = node_pile l b
-pile_of l (r ∷ rs) b = record_pile l r.place r.held (pile_of l rs b)
+abbrev pub pile_of : Listing → Option FileType → List (Placed Record) → Option (Placed Node) → List Deciding
+pile_of l of [] b = node_pile l b
+pile_of l of (r ∷ rs) b = record_pile l of r.place r.held (pile_of l of rs b)
+
+-- those of a stack
+abbrev pub pile_in : Listing → Option FileType → Stack → List Deciding
+pile_in l of s = pile_of l of (records_in s.img.now s.places) (node_in s.img.now s.places)
 
 -- a list has no more rows than a count can say
 abbrev pub Short : List Decided → Type 0
 Short l = length l ≤ last_count
 
 -- the sources are those of the stack
-pub record Gathers (img : List ℕ) (s : InodeLayerStack) (l : Lists) (r : Sources) : Type 0 where
-  pub are : sources_of img r ≡ pile_rows (pile_of l (records_in img s) (node_in img s))
-  pub whole : Whole r
-  pub short : Every Short (sources_of img r)
+pub record Gathers (s : Stack) (l : Listing) (of : Option FileType) (r : Sources) : Type 0 where
+  pub are : sources_of s.img.now (listed r) ≡ pile_rows (pile_in l of s)
+  pub short : Every Short (sources_of s.img.now (listed r))

@@ -1,27 +1,25 @@
 -- The lists that a record and a node have by value, as sources.
-use Rattle.wire.specs.declared.text.Part.{Part}
-use Rattle.std.specs.Prelude.{Bool, true, false, cond, List, [], ◌∷◌, ℕ, None, Option, Some}
-use Rattle.image.specs.Meaning.{Kind, changed_kind}
+use Rattle.std.specs.Prelude.{Bool, true, cond, List, [], ◌∷◌, ℕ, None, Option, Some}
+use Rattle.image.specs.Meaning.{Change, changed_kind}
+use Rattle.image.specs.declared.kind.FileType.{FileType}
 use Rattle.image.specs.declared.name.Under.TheVariants as U
 use Rattle.deltas.specs.declared.delta.NodeDelta.{NodeDelta}
 use Rattle.deltas.specs.declared.delta.NodeDelta.TheVariants as D
-use Rattle.deltas.specs.declared.delta.EntryDelta.{EntryDelta}
-use Rattle.deltas.specs.declared.delta.EntryDelta.TheVariants as E
 use Rattle.nodes.specs.declared.node.Node.{Node}
 use Rattle.nodes.specs.declared.node.NodeKind.{NodeKind}
 use Rattle.nodes.specs.declared.node.NodeKind.TheVariants as K
 use Rattle.deltas.specs.Deltas.{attr_of, change_meant}
 use Rattle.rules.specs.Fold.{same_kind}
-use Rattle.attrs.specs.Meant.{kind_meant}
+use Rattle.image.specs.FileTypes.{kind_meant}
 use Rattle.merge.specs.Sources.{Decided, list_rows}
 use Rattle.merge.specs.Merges.{lists_if}
-use Rattle.gather.specs.declared.gather.Lists.{Lists}
-use Rattle.gather.specs.declared.gather.Lists.TheVariants as L
+use Rattle.gather.specs.declared.gather.Listing.{Listing}
+use Rattle.gather.specs.declared.gather.Listing.TheVariants as L
 
--- "tombstone clears"
-abbrev pub is_tombstone : EntryDelta → Bool
-is_tombstone (E.Node n) = false
-is_tombstone E.Tombstone = true
+-- whether a change is of the type, if one is given: fold: "Other kind: nothing."
+abbrev pub is_of : Option FileType → Change → Bool
+is_of None c = true
+is_of (Some t) c = same_kind (changed_kind c) (kind_meant t)
 
 module _ (img : List ℕ) where
   -- "a directory delta removes then adds, other kinds do nothing"
@@ -35,21 +33,12 @@ module _ (img : List ℕ) where
   change_lists (D.Socket d) = []
 
   -- "the first delta naming it decides (set or removed)"
-  abbrev pub alter_lists : Option Part → List (List Decided)
-  alter_lists o = lists_if img U.Change o
+  abbrev pub alter_lists : Option FileType → NodeDelta → List (List Decided)
+  alter_lists of n = cond (is_of of (change_meant img n)) (lists_if img U.Change (attr_of n).xattrs) []
 
-  -- fold: "Other kind: nothing."
-  abbrev pub alter_lists_of : Kind → NodeDelta → List (List Decided)
-  alter_lists_of k n = cond (same_kind (changed_kind (change_meant img n)) k) (alter_lists (attr_of n).xattrs) []
-
-  abbrev pub delta_lists : Lists → NodeDelta → List (List Decided)
-  delta_lists L.Entries n = change_lists n
-  delta_lists L.Attributes n = alter_lists (attr_of n).xattrs
-  delta_lists (L.AttributesOf t) n = alter_lists_of (kind_meant t) n
-
-  abbrev pub record_lists : Lists → EntryDelta → List (List Decided)
-  record_lists l (E.Node n) = delta_lists l n
-  record_lists l E.Tombstone = []
+  abbrev pub delta_lists : Listing → Option FileType → NodeDelta → List (List Decided)
+  delta_lists L.Entries of n = change_lists n
+  delta_lists L.Attributes of n = alter_lists of n
 
   -- "Last, a base directory's entries"
   abbrev pub entry_lists : NodeKind → List (List Decided)
@@ -61,11 +50,10 @@ module _ (img : List ℕ) where
   entry_lists (K.BlockDevice rdev) = []
   entry_lists K.Socket = []
 
-  abbrev pub node_lists : Lists → Node → List (List Decided)
+  abbrev pub node_lists : Listing → Node → List (List Decided)
   node_lists L.Entries n = entry_lists n.kind
   node_lists L.Attributes n = list_rows img U.Value n.meta.xattrs.start ∷ []
-  node_lists (L.AttributesOf t) n = list_rows img U.Value n.meta.xattrs.start ∷ []
 
-  abbrev pub base_lists : Lists → Option Node → List (List Decided)
+  abbrev pub base_lists : Listing → Option Node → List (List Decided)
   base_lists l (Some n) = node_lists l n
   base_lists l None = []

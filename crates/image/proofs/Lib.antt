@@ -3,4 +3,3 @@ pub mod OneForm
 pub mod RoundTrip
 pub mod Passing
 pub mod Holding
-pub mod Constructs

@@ -6,6 +6,7 @@ pub mod FieldLayout
 pub mod Places
 pub mod Under
 pub mod KindLayout
+pub mod FileTypes
 pub mod Letters
 pub mod NodeLayout
 pub mod RecordLayout

@@ -2,7 +2,7 @@
 use Rattle.std.specs.Prelude.{◌≡◌, ◌≤◌, Result, Ok, Err, Some, None, List, [], ◌∷◌, ℕ, zero, suc, ◌-◌, length, drop, Option}
 use Rattle.std.specs.Prelude.{Option}
 use Rattle.wire.specs.declared.fault.Fault.{Fault}
-use Rattle.wire.specs.declared.text.Part.{Part}
+use Rattle.wire.specs.declared.part.Part.{Part}
 use Rattle.wire.specs.Parse.{Parsed, fault, got, bind}
 use Rattle.wire.specs.Codec.{Codec}
 use Rattle.wire.specs.Combinators.{opt-read}

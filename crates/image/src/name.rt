@@ -5,16 +5,18 @@ ghost use Rattle.wire.specs.Orders.{by_bytes};
 ghost use Rattle.wire.specs.Lists.{after, rising, last_count};
 ghost use Rattle.wire.specs.Reading.{ReadsPart};
 ghost use Rattle.image.specs.FieldLayout.{name as nameText};
+ghost use Rattle.image.specs.Meaning.{Changes as ChangesMeant};
+ghost use Rattle.image.specs.RecordLayout.{changes};
 ghost use Rattle.image.specs.Under.{under};
 ghost use Rattle.image.specs.Places.{Ends, name_before, rows_from};
 
-use crate::field::{LAST_WORD, pass_maybe_text, pass_number, pass_text};
+use crate::field::{Field, Inode, LAST_WORD, XattrValue, pass_maybe};
 use std::cmp::Ordering;
 use wire::fault::Fault;
 use wire::number::read_number;
 use wire::order::compare_part;
-use wire::part::part;
-use wire::text::{Part, read_text};
+use wire::part::Part;
+use wire::text::read_text;
 
 // What stands under each name of a list.
 #[derive(Clone, Copy)]
@@ -33,24 +35,37 @@ pub fn name_after(img: &[u8], at: usize, before: Option<Part>) -> Result<(Part, 
     let Some(last) = before else {
         return Ok((name, next));
     };
-    let bytes = part(img, name.start, name.length);
-    match compare_part(img, last.start, last.length, bytes) {
+    let bytes = name.of(img);
+    match compare_part(img, last, bytes) {
         Ordering::Less => Ok((name, next)),
         Ordering::Equal => Err(Fault::Malformed),
         Ordering::Greater => Err(Fault::Malformed),
     }
 }
 
-// Passes what stands under a name.
+// Passes what stands under a name. A `match`, no type parameter: a merge has lists of all four sorts in one array, so the sort is a value.
 pub fn pass_under(img: &[u8], at: usize, what: Under) -> Result<usize, Fault>
     requires { at ≤ length img.now }
     ensures { Ends img.now (under what).read at result }
 {
     match what {
         Under::Nothing => Ok(at),
-        Under::Inode => pass_number(img, at, u64::MAX),
-        Under::Value => pass_text(img, at, 0, 4096),
-        Under::Change => pass_maybe_text(img, at, 4096),
+        Under::Inode => Inode::pass(img, at),
+        Under::Value => XattrValue::pass(img, at),
+        Under::Change => pass_maybe::<XattrValue>(img, at),
+    }
+}
+
+// Changes of attributes, as a delta has them.
+pub struct Changes;
+
+impl Field for Changes {
+    ghost Said = { ChangesMeant };
+
+    ghost layout = { changes };
+
+    fn pass(img: &[u8], at: usize) -> Result<usize, Fault> {
+        pass_names(img, at, Under::Change)
     }
 }
 

@@ -25,29 +25,30 @@ use Rattle.image.specs.Places.{rows_from}
 use Rattle.rules.specs.Reads.{is_there}
 use Rattle.change.proofs.Cutting.{chain-rows}
 use Rattle.wire.specs.Put.{Put}
-use Rattle.wire.specs.Reading.{Reads, part}
+use Rattle.wire.specs.Reading.{Reads}
 use Rattle.wire.proofs.Puts.{put-append, put-length}
 use Rattle.image.specs.Meaning.{Text}
 use Rattle.image.specs.FieldLayout.{name}
 use Rattle.image.specs.Under.{UnderName, under}
 use Rattle.image.specs.declared.name.Under as UnderN
 use Rattle.image.specs.declared.name.Under.TheVariants as U
+use Rattle.nodes.specs.Options.{text_at}
 use Rattle.nodes.specs.Listed.{by_name, list_at}
-use Rattle.wire.specs.declared.text.Part.{Part}
+use Rattle.wire.specs.declared.part.Part.{Part}
 use Rattle.writers.proofs.Writing.{part-written}
 use Rattle.rules.specs.Changes.{map_if}
 use Rattle.lookup.specs.Search.{IsList, row_name, Standing, ReadsRow}
 use Rattle.lookup.specs.declared.search.RowRead.{RowRead}
 use Rattle.lookup.proofs.Searching.{Taken, row-taken, read_same}
 use Rattle.merge.specs.Pile.{itself}
-use Rattle.merge.specs.Merges.{sources_of, given_by, given_of_merge, merge_gives, Settles}
-use Rattle.merge.specs.declared.merge.Sources.{Sources}
-use Rattle.merge.specs.declared.merge.Merge.{Merge}
+use Rattle.merge.specs.Merges.{sources_of, given_by, given_of_row, gives_from, Gives}
+use Rattle.merge.specs.declared.source.Source.{Source}
+use Rattle.merge.specs.declared.merge.Row.{Row}
 use Rattle.merge.proofs.Piles.{rising-pile}
 use Rattle.change.specs.Cuts.{rows_bytes}
 use Rattle.change.specs.Sections.{between}
 use Rattle.keep.specs.Below.{inode_given}
-use Rattle.keep.specs.Keeps.{keeps, kept_map, keep_rows, kept_rows, leads_in, Rises, AtName, Sought, Keeps, PutsRow, PutsKept}
+use Rattle.keep.specs.Keeps.{keeps, kept_map, keep_rows, kept_rows, leads_from, Rises, Sought, Keeps, PutsRow, PutsKept}
 use Rattle.keep.specs.declared.keep.Kept.{Kept}
 use Rattle.nodes.proofs.OneForm.{by_name-one}
 use Rattle.wire.proofs.OneForm.{then-one}
@@ -93,81 +94,65 @@ module _ {K A : Type 0} (O : Order K) (p : K → A → Bool) where
 -- ---- the names that lead somewhere, up to one
 
 -- those of settled sources rise
-pub settled-rises : {img : List ℕ} {all : Sources} {m : Merge} → Settles img all m → Rises img m
-settled-rises {img} {all} s = record { ready = s.ready; rising = rw s.gives at (rising-pile by_bytes (itself by_bytes) (sources_of img all)) }
+pub settled-rises : {img : List ℕ} {l rest : List Source} {o : Option Row} → Gives img l o rest → Rises img o rest
+settled-rises {img} {l} s = record { ready = s.ready; rising = rw s.gives at (rising-pile by_bytes (itself by_bytes) (sources_of img l)) }
 
-pub record Seeking (img : List ℕ) (m : Merge) (k : Text) (rest : Merge) : Type 0 where
-  pub rises : Rises img rest
-  pub same : (j : Text) → (by_bytes.cmp j k ≡ Less → ⊥) → leads_in img rest j ≡ leads_in img m j
+-- those that are less are passed: what is left leads where it led at first
+pub record Seeking (img : List ℕ) (o₀ : Option Row) (l₀ : List Source) (k : Text) (o : Option Row) (l : List Source) : Type 0 where
+  pub rises : Rises img o l
+  pub same : (j : Text) → (by_bytes.cmp j k ≡ Less → ⊥) → leads_from img o l j ≡ leads_from img o₀ l₀ j
 
-pub seeking-start : {img : List ℕ} {m : Merge} {k : Text} → Rises img m → Seeking img m k m
+pub seeking-start : {img : List ℕ} {o : Option Row} {l : List Source} {k : Text} → Rises img o l → Seeking img o l k o l
 seeking-start r = record { rises = r; same = λ j h. refl }
 
-module _ {img : List ℕ} {m : Merge} {k : Text} {rest : Merge} (g : Seeking img m k rest) where
-  none_left : rest.more ≡ false → AtName img rest k
-  none_left e = record { rises = g.rises; first = λ t. absurd (let z : ◌≡◌ {A = ℕ} 0 1 = cc in omega arith) }
+not-less : (k : Text) → by_bytes.cmp k k ≡ Less → ⊥
+not-less k z = never-lt _ z (by_bytes.self k)
 
-  pub seeking-end : rest.more ≡ false → Sought img m k rest
-  seeking-end e = record { at = none_left e; same = g.same }
+module _ {img : List ℕ} {o₀ : Option Row} {l₀ : List Source} {k : Text} {o : Option Row} {l : List Source} (g : Seeking img o₀ l₀ k o l) where
+  found : {x : Option ℕ} → x ≡ leads_from img o l k → Sought img o₀ l₀ k x o l
+  found e = record { leads = e ∙ g.same k (not-less k); rises = g.rises; same = g.same }
 
-  module _ {o : Ordering} {n : Text} (d : o ≡ by_bytes.cmp (part img rest.start rest.length) n) (e : n ≡ k) where
-    seen : (x : Ordering) → o ≡ x → by_bytes.cmp (part img rest.start rest.length) k ≡ x
-    seen x t = rw (← e, ← d) t
+  pub seeking-end : o ≡ None → Sought img o₀ l₀ k None o l
+  unfolding lookup
+  seeking-end e = found (rw e)
 
-    pub seeking-equal : o ≡ Equal → Sought img m k rest
-    seeking-equal t = record { at = record { rises = g.rises; first = λ h z. never-lt _ z (seen Equal t) }; same = g.same }
+  module _ {a : Row} (i : o ≡ Some a) {x : Ordering} {n : Text} (d : x ≡ by_bytes.cmp (text_at img a.name) n) (e : n ≡ k) where
+    rows : gives_from img o l ≡ given_of_row img a ∷ given_by img l
+    rows = rw i
 
-    pub seeking-greater : o ≡ Greater → Sought img m k rest
-    seeking-greater t = record { at = record { rises = g.rises; first = λ h z. let y : Greater ≡ Less = sym (seen Greater t) ∙ z in absurd (let w : ◌≡◌ {A = ℕ} 0 1 = cc in omega arith) }; same = g.same }
+    seen : (y : Ordering) → x ≡ y → by_bytes.cmp (text_at img a.name) k ≡ y
+    seen y t = rw (← e, ← d) t
 
-    module _ (h : rest.more ≡ true) (t : o ≡ Less) {next : Merge} (s : Settles img rest.all next) where
-      one-row : merge_gives img rest ≡ given_of_merge img rest ∷ merge_gives img next
-      one-row = rw (h, s.gives)
+    pub seeking-equal : x ≡ Equal → Sought img o₀ l₀ k (Some a.given.inode) o l
+    unfolding lookup
+    seeking-equal t = found (rw (rows, by_bytes.same (text_at img a.name) k (seen Equal t), by_bytes.self k))
 
-      pub seeking-less : length (merge_gives img next) < length (merge_gives img rest)
+    pub seeking-greater : x ≡ Greater → Sought img o₀ l₀ k None o l
+    seeking-greater t =
+        let z = by_bytes.flip (text_at img a.name) k (seen Greater t) in
+        let u = rw rows at g.rises.rising in
+        let below = under-below by_bytes k (text_at img a.name) (given_by img l) z u.0 in
+        found (rw rows (ap (map_if inode_given) (sym (lookup-under by_bytes k (given_of_row img a ∷ given_by img l) (z, below)))))
+
+    module _ (t : x ≡ Less) {p : Option Row} {rest : List Source} (s : Gives img l p rest) where
+      one-row : gives_from img o l ≡ given_of_row img a ∷ gives_from img p rest
+      one-row = rw (i, s.gives)
+
+      pub seeking-less : length (gives_from img p rest) < length (gives_from img o l)
       seeking-less = rw one-row (omega arith)
 
-      pub seeking-more : Seeking img m k next
+      pub seeking-more : Seeking img o₀ l₀ k p rest
       unfolding lookup
-      seeking-more = record { rises = settled-rises s; same = λ j l. sym (passes j l) ∙ g.same j l }
+      seeking-more = record { rises = settled-rises s; same = λ j h. sym (passes j h) ∙ g.same j h }
         where
-          passes : (j : Text) → (by_bytes.cmp j k ≡ Less → ⊥) → leads_in img rest j ≡ leads_in img next j
-          passes j l = rw one-row (go (by_bytes.cmp j (part img rest.start rest.length)) refl)
+          passes : (j : Text) → (by_bytes.cmp j k ≡ Less → ⊥) → leads_from img o l j ≡ leads_from img p rest j
+          passes j h = rw one-row (go (by_bytes.cmp j (text_at img a.name)) refl)
             where
-              go : (x : Ordering) → by_bytes.cmp j (part img rest.start rest.length) ≡ x
-                  → map_if inode_given (choose x (Some (given_of_merge img rest).1) (lookup by_bytes j (merge_gives img next))) ≡ leads_in img next j
+              go : (y : Ordering) → by_bytes.cmp j (text_at img a.name) ≡ y
+                  → map_if inode_given (choose y (Some (given_of_row img a).1) (lookup by_bytes j (gives_from img p rest))) ≡ leads_from img p rest j
               go Less q = refl
               go Greater q = refl
-              go Equal q = absurd (l (rw (by_bytes.same j (part img rest.start rest.length) q) (seen Less t)))
-
--- ---- what a name leads to
-
-module _ {img : List ℕ} {m : Merge} {k : Text} (a : AtName img m k) where
-  pub leads-none : m.more ≡ false → None ≡ leads_in img m k
-  unfolding lookup
-  leads-none e = rw e
-
-  module _ (h : m.more ≡ true) {o : Ordering} {n : Text} (d : o ≡ by_bytes.cmp (part img m.start m.length) n) (e : n ≡ k) where
-    rows : merge_gives img m ≡ given_of_merge img m ∷ given_by img m.all
-    rows = rw h
-
-    cmp-is : (x : Ordering) → o ≡ x → by_bytes.cmp (part img m.start m.length) k ≡ x
-    cmp-is x t = rw (← e, ← d) t
-
-    pub leads-less : o ≡ Less → None ≡ leads_in img m k
-    leads-less t = absurd (a.first h (cmp-is Less t))
-
-    pub leads-equal : o ≡ Equal → (Some m.inode) ≡ leads_in img m k
-    unfolding lookup
-    leads-equal t =
-        let z = by_bytes.same (part img m.start m.length) k (cmp-is Equal t) in
-        rw (rows, z, by_bytes.self k)
-
-    pub leads-greater : o ≡ Greater → None ≡ leads_in img m k
-    leads-greater t =
-        let l = by_bytes.flip (part img m.start m.length) k (cmp-is Greater t) in
-        let u = rw rows at a.rises.rising in
-        rw rows (ap (map_if inode_given) (sym (lookup-under by_bytes k (given_of_merge img m ∷ given_by img m.all) (l, under-below by_bytes k (part img m.start m.length) (given_by img m.all) l u.0))))
+              go Equal q = absurd (h (rw (by_bytes.same j (text_at img a.name) q) (seen Less t)))
 
 -- ---- whether a row stays
 
@@ -209,33 +194,36 @@ abbrev bytes_of : (u : UnderN.Under) → List (Text × UnderName u) → List ℕ
 bytes_of u l = rows_bytes name (under u) l
 
 -- of the rows `all` these are left, from here on
-pub record Progress (img : List ℕ) (u : UnderN.Under) (m : Merge) (old : List ℕ) (at : ℕ) (all : List (Text × UnderName u)) (here left : ℕ) (rest : Merge) (buf : List ℕ) (k : Kept) : Type 0 where
+pub record Progress (img : List ℕ) (u : UnderN.Under) (f : Text → Option ℕ) (old : List ℕ) (at : ℕ) (all : List (Text × UnderName u)) (here left : ℕ)
+    (o : Option Row) (rest : List Source) (buf : List ℕ) (k : Kept) : Type 0 where
   pub prev : Option Text
   pub rows : List (Text × UnderName u)
   pub standing : Standing img u prev here left rows
-  pub agree : Every (λ (e : Text × UnderName u). leads_in img rest e.0 ≡ leads_in img m e.0) rows
-  pub put : (r : ℕ) (new : List ℕ) → Put buf k.at (bytes_of u (kept_rows u (leads_in img m) rows)) r new → Put old at (bytes_of u (kept_rows u (leads_in img m) all)) r new
-  pub counts : k.count + length (kept_rows u (leads_in img m) rows) ≡ length (kept_rows u (leads_in img m) all)
+  pub agree : Every (λ (e : Text × UnderName u). leads_from img o rest e.0 ≡ f e.0) rows
+  pub put : (r : ℕ) (new : List ℕ) → Put buf k.at (bytes_of u (kept_rows u f rows)) r new → Put old at (bytes_of u (kept_rows u f all)) r new
+  pub counts : k.count + length (kept_rows u f rows) ≡ length (kept_rows u f all)
 
-pub record Keeping (img : List ℕ) (u : UnderN.Under) (m : Merge) (old : List ℕ) (at first total here left : ℕ) (rest : Merge) (buf : List ℕ) (k : Kept) : Type 0 where
-  pub rises : Rises img rest
+pub record Keeping (img : List ℕ) (u : UnderN.Under) (f : Text → Option ℕ) (old : List ℕ) (at first total here left : ℕ) (o : Option Row) (rest : List Source)
+    (buf : List ℕ) (k : Kept) : Type 0 where
+  pub rises : Rises img o rest
   pub low : k.at ≤ edge
   pub same : length buf ≡ length old
   pub short : length old < edge
-  pub kept : (l : List (Text × UnderName u)) → Standing img u None first total l → Progress img u m old at l here left rest buf k
+  pub kept : (l : List (Text × UnderName u)) → Standing img u None first total l → Progress img u f old at l here left o rest buf k
 
 agree-start : {A : Type 0} (f : Text → Option ℕ) (l : List (Text × A)) → Every (λ (e : Text × A). f e.0 ≡ f e.0) l
 agree-start f [] = tt
 agree-start f (e ∷ l) = (refl, agree-start f l)
 
-pub keeping_start : {img : List ℕ} {u : UnderN.Under} {m : Merge} {old : List ℕ} {at first total : ℕ} → Rises img m → at ≤ edge → length old < edge
-    → Keeping img u m old at first total first total m old (record { at = at; count = 0 })
-keeping_start {img} {u} {m} r a s = record {
+pub keeping_start : {img : List ℕ} {u : UnderN.Under} {o : Option Row} {l : List Source} {old : List ℕ} {at first total : ℕ} → Rises img o l → at ≤ edge
+    → length old < edge
+    → Keeping img u (leads_from img o l) old at first total first total o l old (record { at = at; count = 0 })
+keeping_start {img} {u} {o} {l} r a s = record {
   rises = r;
   low = a;
   same = refl;
   short = s;
-  kept = λ l w. record { prev = None; rows = l; standing = w; agree = agree-start (leads_in img m) l; put = λ r new p. p; counts = omega arith };
+  kept = λ rows w. record { prev = None; rows = rows; standing = w; agree = agree-start (leads_from img o l) rows; put = λ r new p. p; counts = omega arith };
 }
 
 -- no row is left
@@ -258,54 +246,59 @@ keep-few p (e ∷ l) = go (p e.0 e.1) (keep-few p l)
     go true h = omega arith
     go false h = omega arith
 
-module _ {img : List ℕ} {u : UnderN.Under} {m : Merge} {old : List ℕ} {at first total here left : ℕ} {rest : Merge} {buf : List ℕ} {k : Kept}
-    (g : Keeping img u m old at first total here left rest buf k) where
+module _ {img : List ℕ} {u : UnderN.Under} {f : Text → Option ℕ} {old : List ℕ} {at first total here left : ℕ} {o : Option Row} {rest : List Source}
+    {buf : List ℕ} {k : Kept}
+    (g : Keeping img u f old at first total here left o rest buf k) where
   module _ {p : Part} (l : Standing img u None first total (list_at img u p).rows) where
-    pub keeping_all : left ≤ 0 → PutsKept img u p m old at k buf
+    pub keeping_all : left ≤ 0 → PutsKept img u p f old at k buf
     unfolding rows_bytes
     keeping_all h =
         let q = g.kept (list_at img u p).rows l in
         let z = rows_end h q.standing in
-        record { put = q.put k.at buf (rw z (put-none (omega (arith, g.short, g.same)) g.low)); count = omega (arith, q.counts, ap (λ (l : List (Text × UnderName u)). length (kept_rows u (leads_in img m) l)) z) }
+        record {
+          put = q.put k.at buf (rw z (put-none (omega (arith, g.short, g.same)) g.low));
+          count = omega (arith, q.counts, ap (λ (l : List (Text × UnderName u)). length (kept_rows u f l)) z);
+        }
 
     -- there is no more than the list's count
     pub keeping-few : IsList img u p → k.count < edge
     keeping-few i =
         let q = g.kept (list_at img u p).rows l in
-        omega (arith, q.counts, keep-few (λ k v. keeps u (leads_in img m k) v) (list_at img u p).rows, ((by_name-one u).forth _ _ _ i.1.is).1.0)
+        omega (arith, q.counts, keep-few (λ k v. keeps u (f k) v) (list_at img u p).rows, ((by_name-one u).forth _ _ _ i.1.is).1.0)
 
-  module _ (h : 0 < left) {r : RowRead} (w : ReadsRow img u here r) {seen : Merge} (s : Sought img rest (row_name img r) seen) where
+  module _ (h : 0 < left) {r : RowRead} (w : ReadsRow img u here r) {x : Option ℕ} {p : Option Row} {seen : List Source}
+      (s : Sought img o rest (row_name img r) x p seen) where
     -- the names after the row's are not less
-    later : (l : List (Text × UnderName u)) → Under by_bytes (row_name img r) l → Every (λ (e : Text × UnderName u). leads_in img rest e.0 ≡ leads_in img m e.0) l
-        → Every (λ (e : Text × UnderName u). leads_in img seen e.0 ≡ leads_in img m e.0) l
+    later : (l : List (Text × UnderName u)) → Under by_bytes (row_name img r) l → Every (λ (e : Text × UnderName u). leads_from img o rest e.0 ≡ f e.0) l
+        → Every (λ (e : Text × UnderName u). leads_from img p seen e.0 ≡ f e.0) l
     later [] v a = tt
     later (e ∷ l) v a =
         (s.same e.0 (λ z. never-lt _ (by_bytes.trans (row_name img r) e.0 (row_name img r) v.0 z) (by_bytes.self (row_name img r))) ∙ a.0, later l v.1 a.1)
 
-    module _ {b : Bool} {o : Option ℕ} (f : o ≡ leads_in img seen (row_name img r)) (d : Keeps img u o r.under b) {k2 : Kept} {out : List ℕ} (p : PutsRow (between img here r.next) b k buf k2 out) where
-      module _ (all : List (Text × UnderName u)) (q : Progress img u m old at all here left rest buf k) (t : Taken img u left q.rows r w.value) where
-        agrees : Every (λ (e : Text × UnderName u). leads_in img rest e.0 ≡ leads_in img m e.0) ((row_name img r, w.value) ∷ t.others)
+    module _ {b : Bool} (d : Keeps img u x r.under b) {k2 : Kept} {out : List ℕ} (w₂ : PutsRow (between img here r.next) b k buf k2 out) where
+      module _ (all : List (Text × UnderName u)) (q : Progress img u f old at all here left o rest buf k) (t : Taken img u left q.rows r w.value) where
+        agrees : Every (λ (e : Text × UnderName u). leads_from img o rest e.0 ≡ f e.0) ((row_name img r, w.value) ∷ t.others)
         agrees = rw t.are at q.agree
 
-        decides : keeps u (leads_in img m (row_name img r)) w.value ≡ b
+        decides : keeps u (f (row_name img r)) w.value ≡ b
         decides =
-            let z : leads_in img seen (row_name img r) ≡ leads_in img m (row_name img r) = s.same (row_name img r) (λ z. never-lt _ z (by_bytes.self (row_name img r))) ∙ agrees.0 in
-            sym (d.is w.value (drop r.next img) w.held ∙ rw (f, z))
+            let z : x ≡ f (row_name img r) = s.leads ∙ agrees.0 in
+            sym (d.is w.value (drop r.next img) w.held ∙ rw z)
 
         row-bytes : between img here r.next ≡ name.write (row_name img r) ++ (under u).write w.value
         row-bytes =
             part-written (name then under u) (then-one name (under u) name-one (under-one u)) {a = (row_name img r, w.value)} q.standing.within
             (record { same = rw (w.named, w.held); within = w.within })
 
-        rows_are : (x : Bool) → b ≡ x → kept_rows u (leads_in img m) q.rows ≡ cond x ((row_name img r, w.value) ∷ kept_rows u (leads_in img m) t.others) (kept_rows u (leads_in img m) t.others)
+        rows_are : (x : Bool) → b ≡ x → kept_rows u f q.rows ≡ cond x ((row_name img r, w.value) ∷ kept_rows u f t.others) (kept_rows u f t.others)
         rows_are x e =
-            ap (kept_rows u (leads_in img m)) t.are
-            ∙ ap (λ (y : Bool). cond y ((row_name img r, w.value) ∷ kept_rows u (leads_in img m) t.others) (kept_rows u (leads_in img m) t.others)) (decides ∙ e)
+            ap (kept_rows u f) t.are
+            ∙ ap (λ (y : Bool). cond y ((row_name img r, w.value) ∷ kept_rows u f t.others) (kept_rows u f t.others)) (decides ∙ e)
 
-        on : (x : Bool) → b ≡ x → Progress img u m old at all r.next (left - 1) seen out k2
+        on : (y : Bool) → b ≡ y → Progress img u f old at all r.next (left - 1) p seen out k2
         unfolding rows_bytes
         on true e =
-            let y = p.stayed e in
+            let y = w₂.stayed e in
             record {
               prev = Some (row_name img r);
               rows = t.others;
@@ -315,7 +308,7 @@ module _ {img : List ℕ} {u : UnderN.Under} {m : Merge} {old : List ℕ} {at fi
               counts = omega (arith, q.counts, ap length (rows_are true e), y.1);
             }
         on false e =
-            let y = p.dropped e in
+            let y = w₂.dropped e in
             rw (y.0, y.1)
             (record {
               prev = Some (row_name img r);
@@ -327,12 +320,12 @@ module _ {img : List ℕ} {u : UnderN.Under} {m : Merge} {old : List ℕ} {at fi
             })
 
       low-on : (x : Bool) → b ≡ x → (k2.at ≤ edge) × (length out ≡ length old)
-      low-on true e = let y = p.stayed e in (omega (arith, y.0.to), put-length y.0 ∙ g.same)
-      low-on false e = let y = p.dropped e in rw (y.0, y.1) (g.low, g.same)
+      low-on true e = let y = w₂.stayed e in (omega (arith, y.0.to), put-length y.0 ∙ g.same)
+      low-on false e = let y = w₂.dropped e in rw (y.0, y.1) (g.low, g.same)
 
-      pub keeping-on : Keeping img u m old at first total r.next (left - 1) seen out k2
+      pub keeping-on : Keeping img u f old at first total r.next (left - 1) p seen out k2
       keeping-on = record {
-        rises = s.at.rises;
+        rises = s.rises;
         low = (low-on b refl).0;
         same = (low-on b refl).1;
         short = g.short;
@@ -350,9 +343,10 @@ module _ {bytes old : List ℕ} {stays : Bool} {k : Kept} where
 
 -- ---- the list
 
-pub kept-list : {img : List ℕ} {u : UnderN.Under} {p : Part} {m : Merge} {old mid new none₁ none₂ : List ℕ} {at zero₁ q : ℕ} {c k : Kept} → PutsKept img u p m none₁ zero₁ c none₂ → Put old at (number_bytes c.count) q mid
-    → PutsKept img u p m mid q k new → Put old at ((by_name u).write (kept_map u (leads_in img m) (list_at img u p))) k.at new
-kept-list {img} {u} {p} {m} a b c =
+pub kept-list : {img : List ℕ} {u : UnderN.Under} {p : Part} (f : Text → Option ℕ) {old mid new none₁ none₂ : List ℕ} {at zero₁ q : ℕ} {c k : Kept}
+    → PutsKept img u p f none₁ zero₁ c none₂
+    → Put old at (number_bytes c.count) q mid → PutsKept img u p f mid q k new → Put old at ((by_name u).write (kept_map u f (list_at img u p))) k.at new
+kept-list {img} {u} {p} f a b c =
     let t = list_at img u p in
-    let e : (kept_map u (leads_in img m) t).rows ≡ kept_rows u (leads_in img m) t.rows = keep-are by_bytes (λ k v. keeps u (leads_in img m k) v) t in
-    rw (e, chain-rows by_bytes name (under u) None (kept_rows u (leads_in img m) t.rows), ← a.count) (put-append b c.put)
+    let e : (kept_map u f t).rows ≡ kept_rows u f t.rows = keep-are by_bytes (λ k v. keeps u (f k) v) t in
+    rw (e, chain-rows by_bytes name (under u) None (kept_rows u f t.rows), ← a.count) (put-append b c.put)

@@ -1,18 +1,15 @@
 -- The lists of a stack, as sources from the top, give the names that lead somewhere.
 -- Assumes nothing.
-use Rattle.wire.specs.declared.text.Part.{Part}
+use Rattle.wire.specs.declared.part.Part.{Part}
 use Rattle.std.specs.Prelude.{None, Option, Some}
 use mathlib.Core.Path.{◌≡◌, refl, sym, ap, ◌∙◌}
 use mathlib.Core.List.{List, [], ◌∷◌, ◌++◌, append-nil}
 use Prim.Native.Nat.{ℕ, ◌+◌, ◌-◌, ◌*◌, ◌≤◌, ◌<◌}
 use native.Mathlib.Omega.{arith}
-use lib.ListN.{length, drop, get_or}
-use denote.Enum.Declared.{tag_of}
-use types.Run.{OneOf}
+use lib.ListN.{drop}
 use Rattle.wire.specs.Orders.{by_bytes}
 use Rattle.wire.specs.Maps.{Map, meet, get, get-merge, get-empty}
 use Rattle.image.specs.Meaning.{Text, Entries, Names}
-use Rattle.survey.specs.declared.batch.InodeLayerStack.{InodeLayerStack}
 use Rattle.image.specs.declared.name.Under as UnderN
 use Rattle.image.specs.declared.name.Under.TheVariants as U
 use Rattle.image.specs.Under.{UnderName, under}
@@ -23,23 +20,22 @@ use Rattle.deltas.specs.declared.delta.EntryDelta.{EntryDelta}
 use Rattle.deltas.specs.declared.delta.EntryDelta.TheVariants as E
 use Rattle.deltas.specs.Deltas.{entry_meant}
 use Rattle.nodes.specs.Listed.{list_at}
-use Rattle.deltas.specs.contracts.delta.NodeDelta as delta
-use Rattle.deltas.proofs.Others.{not_directory}
 use Rattle.rules.specs.Reads.{child, step_child}
 use Rattle.rules.specs.Changes.{map_if}
 use Rattle.rules.specs.Starts.{starts}
 use Rattle.rules.proofs.MapValues.{get-map}
 use Rattle.rules.proofs.Forgotten.{starts-forgotten}
-use Rattle.stack.specs.Stacks.{Stacked, shown_under, shown, RecordIs}
+use Rattle.stack.specs.Stacks.{shown_under}
+use Rattle.stack.specs.InStack.{RecordIn, shown_in}
+use Rattle.stack.specs.declared.stack.Stack.{Stack}
 use Rattle.lookup.specs.Children.{BaseEntries}
 use Rattle.stack.proofs.Walks.{shown-more}
-use Rattle.layers.proofs.Others.{other-child}
 use Rattle.merge.specs.Pile.{rows_of, merged, itself}
 use Rattle.merge.specs.Sources.{Given, decided, list_rows}
-use Rattle.merge.specs.Merges.{sources_of, Whole, NoSources, how_many, rows_in, lists_if, Pushes}
-use Rattle.merge.specs.declared.merge.Sources.{Sources}
+use Rattle.merge.specs.Merges.{listed, sources_of, in_order, rows_in, lists_if, Pushes}
+use Rattle.merge.specs.declared.sources.Sources.{Sources}
 use Rattle.merge.specs.declared.merge.AtMostTwo.{AtMostTwo}
-use Rattle.merge.proofs.Merging.{many-rows}
+use Rattle.merge.proofs.Merging.{many-two, sources-more}
 use Rattle.merge.proofs.Piles.{pile-merged}
 use Rattle.merge.proofs.Lists.{Deciding, pile_rows, pile-ascends, rows_append, source_of, list-are}
 use Rattle.keep.specs.Below.{inode_given, Leads}
@@ -87,75 +83,76 @@ added-lead k q m x = rw (get-map, get-start k U.Inode q m) (go (get by_bytes k (
 -- ---- the walk from the top
 
 -- The sources of the records from i on are there; what they leave open is for the lowest i records and the node.
-pub record Leading (img : List ℕ) (s : InodeLayerStack) (all : Sources) (i : ℕ) : Type 0 where
-  pub low : i ≤ s.count
-  pub few : all.count + 2 * i ≤ 2 * s.count
-  pub whole : Whole all
+pub record Leading (s : Stack) (all : Sources) (i : ℕ) : Type 0 where
+  pub low : i ≤ s.places.count
+  pub few : all.count + 2 * i ≤ 2 * s.places.count
   pub maps : List Deciding
-  pub are : sources_of img all ≡ pile_rows maps
-  pub same : (k : Text) → shown (child k) img s ≡ lead_or k maps (shown_under (child k) img s i)
+  pub are : sources_of s.img.now (listed all) ≡ pile_rows maps
+  pub same : (k : Text) → shown_in (child k) s ≡ lead_or k maps (shown_under (child k) s.img.now s.places i)
 
-pub one_list : (img : List ℕ) (o : Option Part) (f : AtMostTwo) → rows_in img f ≡ lists_if img U.Inode o → how_many f ≤ 1
-one_list img (Some p) f e = omega (arith, many-rows img f, ap length e)
-one_list img None f e = omega (arith, many-rows img f, ap length e)
-
-leads-of : {img : List ℕ} {s : InodeLayerStack} {all : Sources} → Whole all → (maps : List Deciding) → sources_of img all ≡ pile_rows maps
-    → ((k : Text) → shown (child k) img s ≡ lead_or k maps None) → Leads img s all
+leads-of : {s : Stack} {all : Sources} (maps : List Deciding) → sources_of s.img.now (listed all) ≡ pile_rows maps
+    → ((k : Text) → shown_in (child k) s ≡ lead_or k maps None) → Leads s all
 unfolding get
-leads-of w maps e f = record {
-  ready = record { whole = w; ascend = rw e (pile-ascends maps) };
+leads-of maps e f = record {
+  ready = record { ascend = rw e (pile-ascends maps) };
   leads = λ k. rw (e, pile-merged by_bytes (itself by_bytes) maps) (sym (f k ∙ lead-merged k maps));
 }
 
-module _ {img : List ℕ} {s : InodeLayerStack} {all : Sources} where
-  pub leading-start : NoSources all → Leading img s all s.count
+module _ {s : Stack} {all : Sources} where
+  pub leading-start : all.count ≡ 0 → Leading s all s.places.count
   unfolding rows_of
-  leading-start n = record { low = omega arith; few = omega (arith, n.none_yet); whole = n.whole; maps = []; are = rw n.none_yet; same = λ k. refl }
+  leading-start n = record { low = omega arith; few = omega (arith, n); maps = []; are = rw n; same = λ k. refl }
 
-  module _ (h : Stacked img s) {i : ℕ} (l : 0 < i) (g : Leading img s all i) {e : EntryDelta} (r : RecordIs img (get_or s.deltas (i - 1) 0) e) where
-    top : (k : Text) → shown (child k) img s ≡ lead_or k g.maps (step_child k (entry_meant img e) (shown_under (child k) img s (i - 1)))
+  module _ {i : ℕ} (l : 0 < i) (g : Leading s all i) {e : EntryDelta} (r : RecordIn s (i - 1) e) where
+    top : (k : Text) → shown_in (child k) s ≡ lead_or k g.maps (step_child k (entry_meant s.img.now e) (shown_under (child k) s.img.now s.places (i - 1)))
     top k =
         let z : i ≡ i - 1 + 1 = omega arith in
-        g.same k ∙ ap (lead_or k g.maps) (ap (λ (n : ℕ). shown_under (child k) img s n) z ∙ shown-more h (child k) (i - 1) (omega (arith, g.low)) r)
+        g.same k ∙ ap (lead_or k g.maps)
+        (ap (λ (n : ℕ). shown_under (child k) s.img.now s.places n) z ∙ shown-more s.stacked (child k) (i - 1) (omega (arith, g.low)) r)
 
-    -- "Tombstone: none."
-    pub leading-tombstone : e ≡ E.Tombstone → Leads img s all
-    leading-tombstone d = leads-of g.whole g.maps g.are (λ k. top k ∙ rw d)
-
-    -- "Other kind: none."
-    pub leading-other : {n : NodeDelta} → e ≡ E.Node n → OneOf not_directory (tag_of delta.the_type n) → Leads img s all
-    leading-other {n} d o = leads-of g.whole g.maps g.are (λ k. top k ∙ ap (lead_or k g.maps) (rw d (other-child img n o k _)))
+    -- "Tombstone: none." "Other kind: none."
+    pub leading-end : ((k : Text) (x : Option ℕ) → step_child k (entry_meant s.img.now e) x ≡ None) → Leads s all
+    leading-end d = leads-of g.maps g.are (λ k. top k ∙ ap (lead_or k g.maps) (d k _))
 
     -- "Directory delta: removed name, none; else added name, its inode; else go on below."
-    pub leading-more : {n : NodeDelta} {d : DirectoryDelta} → e ≡ E.Node n → n ≡ D.Directory d → {out : Sources}
-        → Pushes img all (list_rows img U.Nothing d.removed.start ∷ (list_rows img U.Inode d.added.start ∷ [])) out → Leading img s out (i - 1)
+    pub leading-more : {n : NodeDelta} {d : DirectoryDelta} → e ≡ E.Node n → n ≡ D.Directory d → (f : AtMostTwo)
+        → rows_in s.img.now f ≡ list_rows s.img.now U.Nothing d.removed.start ∷ (list_rows s.img.now U.Inode d.added.start ∷ []) → {out : Sources}
+        → Pushes all (in_order f) out
+        → Leading s out (i - 1)
     unfolding rows_of
-    leading-more {n} {d} en ed p =
+    leading-more {n} {d} en ed f q p =
+        let img = s.img.now in
         let z : e ≡ E.Node (D.Directory d) = rw ed at en in
         let t = rw z at r.reads.lists in
         let removed = list_at img U.Nothing d.removed in
         let added = list_at img U.Inode d.added in
         let xs = source_of U.Nothing d.removed.start removed ∷ [] in
         let ys = source_of U.Inode d.added.start added ∷ [] in
+        let removed-are = list-are img U.Nothing d.removed.start removed (drop r.end img) t.1.is in
+        let added-are = list-are img U.Inode d.added.start added (drop d.removed.start img) t.0.is in
         record {
           low = omega (arith, g.low);
-          few = omega (arith, g.few, p.more);
-          whole = p.whole;
+          few = omega (arith, g.few, p.more, many-two f);
           maps = g.maps ++ (xs ++ ys);
-          are = p.are ∙ rw (g.are, list-are img U.Nothing d.removed.start removed (drop r.end img) t.1.is, list-are img U.Inode d.added.start added (drop d.removed.start img) t.0.is, rows_append);
+          are =
+              sources-more img p
+              ∙ rw (g.are, q, removed-are, added-are, rows_append);
           same = λ k. top k ∙ rw (z, lead-append k g.maps (xs ++ ys), lead-append k xs ys, added-lead, removed-lead);
         }
 
   -- "Last, a base directory's entries."
-  pub leading-all : {i : ℕ} → i ≤ 0 → Leading img s all i → (o : Option Part) → BaseEntries img s o → {out : Sources} → Pushes img all (lists_if img U.Inode o) out → Leads img s out
+  pub leading-all : {i : ℕ} → i ≤ 0 → Leading s all i → (o : Option Part) → BaseEntries s o → (f : AtMostTwo)
+      → rows_in s.img.now f ≡ lists_if s.img.now U.Inode o → {out : Sources}
+      → Pushes all (in_order f) out → Leads s out
   unfolding rows_of
-  leading-all {i} h g None b p =
+  leading-all {i} h g None b f q p =
       let z : i ≡ 0 = omega arith in
-      leads-of p.whole g.maps (p.are ∙ rw (g.are, append-nil)) (λ k. g.same k ∙ ap (lead_or k g.maps) (rw z (b k)))
-  leading-all {i} h g (Some q) b p =
+      leads-of g.maps (sources-more s.img.now p ∙ rw (g.are, q, append-nil)) (λ k. g.same k ∙ ap (lead_or k g.maps) (rw z (b k)))
+  leading-all {i} h g (Some r) b f q p =
+      let img = s.img.now in
       let z : i ≡ 0 = omega arith in
-      let m = list_at img U.Inode q in
-      let xs = source_of U.Inode q.start m ∷ [] in
+      let m = list_at img U.Inode r in
+      let xs = source_of U.Inode r.start m ∷ [] in
       let l = (b []).0 in
-      leads-of p.whole (g.maps ++ xs) (p.are ∙ rw (g.are, list-are img U.Inode q.start m (drop l.0 img) l.1.is, rows_append))
-      (λ k. g.same k ∙ ap (lead_or k g.maps) (rw z (b k).1 ∙ sym (added-lead k q.start m None)) ∙ sym (lead-append k g.maps xs None))
+      leads-of (g.maps ++ xs) (sources-more img p ∙ rw (g.are, q, list-are img U.Inode r.start m (drop l.0 img) l.1.is, rows_append))
+      (λ k. g.same k ∙ ap (lead_or k g.maps) (rw z (b k).1 ∙ sym (added-lead k r.start m None)) ∙ sym (lead-append k g.maps xs None))

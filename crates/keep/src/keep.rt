@@ -4,20 +4,20 @@ ghost use Rattle.image.specs.declared.name.Under.TheVariants as U;
 ghost use Rattle.wire.specs.Number.{edge};
 ghost use Rattle.wire.specs.Put.{Put};
 ghost use Rattle.change.specs.Sections.{between};
-ghost use Rattle.wire.specs.Reading.{part as part_of};
+ghost use Rattle.nodes.specs.Options.{text_at};
 ghost use Rattle.nodes.specs.Listed.{by_name, list_at};
 ghost use Rattle.lookup.specs.Search.{IsList};
-ghost use Rattle.keep.specs.Keeps.{Rises, AtName, Sought, leads_in, Keeps, PutsRow, PutsKept, kept_map};
+ghost use Rattle.keep.specs.Keeps.{Rises, MergeRises, Sought, leads_in, Keeps, PutsRow, PutsKept, kept_map};
 
 use change::copy::put_between;
 use image::name::Under;
 use lookup::search::{read_row, rows_of};
-use merge::merge::{Merge, settle};
+use merge::merge::{Merge, Row, next_given};
+use merge::source::Source;
 use std::cmp::Ordering;
 use wire::number::{put_number, read_number};
 use wire::order::compare_part;
-use wire::part::part;
-use wire::text::Part;
+use wire::part::Part;
 
 // The place after the rows that stay, and how many they are.
 #[derive(Clone, Copy)]
@@ -26,35 +26,18 @@ pub struct Kept {
     pub count: u64,
 }
 
-// Passes the names that are less than a name.
-fn seek(img: &[u8], merge: Merge, start: usize, length: usize) -> Merge
-    requires { Rises img.now merge }
-    ensures { Sought img.now merge (part_of img.now start length) result }
+// The inode that a name leads to, if it leads anywhere. The names that are less are passed: `first` is the one at hand, the sources are past it.
+fn leads_to(img: &[u8], sources: &mut [Source], first: &mut Option<Row>, name: Part) -> Option<u64>
+    requires { Rises img.now first.old sources.old }
+    ensures { Sought img.now first.old sources.old (text_at img.now name) result first.new sources.new }
 {
-    let mut rest = merge;
-    while rest.more {
-        match compare_part(img, rest.start, rest.length, part(img, start, length)) {
+    while let Some(row) = *first {
+        match compare_part(img, row.name, name.of(img)) {
             Ordering::Less => {}
-            Ordering::Equal => return rest,
-            Ordering::Greater => return rest,
+            Ordering::Equal => return Some(row.given.inode),
+            Ordering::Greater => return None,
         }
-        let all = rest.all;
-        rest = settle(img, all);
-    }
-    rest
-}
-
-// The inode that a name leads to, where the names that are less are passed.
-fn leads_to(img: &[u8], merge: Merge, start: usize, length: usize) -> Option<u64>
-    requires { AtName img.now merge (part_of img.now start length) }
-    ensures { result ≡ leads_in img.now merge (part_of img.now start length) }
-{
-    if merge.more {
-        match compare_part(img, merge.start, merge.length, part(img, start, length)) {
-            Ordering::Less => {}
-            Ordering::Equal => return Some(merge.inode),
-            Ordering::Greater => {}
-        }
+        *first = next_given(img, sources);
     }
     None
 }
@@ -98,17 +81,18 @@ fn put_row(buf: &mut [u8], kept: Kept, img: &[u8], start: usize, end: usize, sta
 
 // Writes the rows that stay, and counts them.
 fn put_kept(buf: &mut [u8], at: usize, img: &[u8], list: Part, what: Under, merge: Merge) -> Kept
-    requires { IsList img.now what list × Rises img.now merge }
-    ensures { PutsKept img.now what list merge buf.old at result buf.new }
+    requires { IsList img.now what list × MergeRises img.now merge }
+    ensures { PutsKept img.now what list (leads_in img.now merge) buf.old at result buf.new }
 {
     let rows = rows_of(img, list, what);
+    let mut names = merge.all.rows;
+    let sources = &mut names[..merge.all.count];
+    let mut first = merge.first;
     let mut here = rows.first;
-    let mut rest = merge;
     let mut kept = Kept { at, count: 0 };
     for _ in 0..rows.count {
         let row = read_row(img, here, what);
-        rest = seek(img, rest, row.start, row.length);
-        let below = leads_to(img, rest, row.start, row.length);
+        let below = leads_to(img, sources, &mut first, row.name);
         let stays = is_kept(img, what, below, row.under);
         kept = put_row(buf, kept, img, here, row.next, stays);
         here = row.next;
@@ -125,7 +109,7 @@ pub fn put_kept_list(
     what: Under,
     merge: Merge,
 ) -> usize
-    requires { IsList img.now what list × Rises img.now merge }
+    requires { IsList img.now what list × MergeRises img.now merge }
     ensures { Put buf.old at ((by_name what).write (kept_map what (leads_in img.now merge) (list_at img.now what list))) result buf.new }
 {
     let mut none = [0u8; 0];

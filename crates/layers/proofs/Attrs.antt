@@ -6,8 +6,6 @@ use mathlib.Core.Path.{◌≡◌, sym, ap, ◌∙◌}
 use mathlib.Core.List.{List}
 use Prim.Native.Nat.{ℕ, ◌+◌, ◌<◌, ◌≤◌}
 use native.Mathlib.Omega.{arith}
-use lib.ListN.{get_or}
-use Rattle.survey.specs.declared.batch.InodeLayerStack.{InodeLayerStack}
 use Rattle.rules.specs.Initial.{usual}
 use Rattle.rules.specs.FileAttrs.{attributes, base_attr, step_attr}
 use Rattle.rules.specs.FileAttrs as R
@@ -22,7 +20,9 @@ use Rattle.nodes.specs.Nodes.{EntriesListed}
 use Rattle.deltas.specs.Deltas.{entry_meant, ChangeListed, EntryListed}
 use Rattle.attrs.specs.Attrs.{TargetIn, LinkIn}
 use Rattle.layers.specs.Attrs.{EntryTargetIn, BaseLinkIn, attr_if}
-use Rattle.stack.specs.Stacks.{Stacked, shown_under, shown, RecordIs, BaseIs, node_meant_if}
+use Rattle.stack.specs.Stacks.{BaseIs, node_meant_if}
+use Rattle.stack.specs.InStack.{RecordIn, BaseIn, shown_lowest, shown_in}
+use Rattle.stack.specs.declared.stack.Stack.{Stack}
 use Rattle.stack.proofs.Walks.{shown-base, shown-more}
 
 -- ---- targets are inside the image
@@ -57,23 +57,25 @@ base-in img (Some p) (Some n) b = kind-in img n.kind b.end b.reads.entries
 -- ---- the walk
 
 -- the attributes that the lowest i records and the node of a stack show
-pub record Risen (ino : ℕ) (img : List ℕ) (s : InodeLayerStack) (i : ℕ) (a : Option FileAttr) : Type 0 where
-  pub low : i ≤ s.count
-  pub same : attr_if a ≡ shown_under (attributes usual ino) img s i
+pub record Risen (ino : ℕ) (s : Stack) (i : ℕ) (a : Option FileAttr) : Type 0 where
+  pub low : i ≤ s.places.count
+  pub same : attr_if a ≡ shown_lowest (attributes usual ino) s i
 
-module _ {ino : ℕ} {img : List ℕ} {s : InodeLayerStack} where
+module _ {ino : ℕ} {s : Stack} where
   -- "Start at the base's"
-  pub rise-start : (o : Option Node) {a : Option FileAttr} → BaseIs img s.base o
-      → ((m : List ℕ) → BaseLinkIn m o → attr_if a ≡ base_attr ino (node_meant_if m o)) → Risen ino img s 0 a
-  rise-start o b h = record { low = omega arith; same = h img (base-in img s.base o b) ∙ sym (shown-base (attributes usual ino) img s o b) }
+  pub rise-start : (o : Option Node) {a : Option FileAttr} → BaseIn s o
+      → ((m : List ℕ) → BaseLinkIn m o → attr_if a ≡ base_attr ino (node_meant_if m o)) → Risen ino s 0 a
+  rise-start o b h =
+      let m = s.img.now in
+      record { low = omega arith; same = h m (base-in m s.places.base o b) ∙ sym (shown-base (attributes usual ino) m s.places o b) }
 
   -- what the record above them makes of them
-  pub rise-on : {i : ℕ} {e : EntryDelta} {a x : Option FileAttr} → Stacked img s → Risen ino img s i a → i < s.count → RecordIs img (get_or s.deltas i 0) e
-      → ((m : List ℕ) → EntryTargetIn m e → attr_if x ≡ step_attr usual ino (entry_meant m e) (attr_if a)) → Risen ino img s (i + 1) x
-  rise-on {i} {e} h w l g f = record {
-    low = omega (arith, l);
-    same = f img (entry_in img e g.end g.reads.lists) ∙ ap (λ (z : Option R.FileAttr). step_attr usual ino (entry_meant img e) z) w.same ∙ sym (shown-more h (attributes usual ino) i l g);
-  }
+  pub rise-on : {i : ℕ} {e : EntryDelta} {a x : Option FileAttr} → Risen ino s i a → i < s.places.count → RecordIn s i e
+      → ((m : List ℕ) → EntryTargetIn m e → attr_if x ≡ step_attr usual ino (entry_meant m e) (attr_if a)) → Risen ino s (i + 1) x
+  rise-on {i} {e} w l g f =
+      let m = s.img.now in
+      let below = ap (λ (z : Option R.FileAttr). step_attr usual ino (entry_meant m e) z) w.same in
+      record { low = omega (arith, l); same = f m (entry_in m e g.end g.reads.lists) ∙ below ∙ sym (shown-more s.stacked (attributes usual ino) i l g) }
 
-  pub rise-end : {i : ℕ} {a : Option FileAttr} → Risen ino img s i a → s.count ≤ i → attr_if a ≡ shown (attributes usual ino) img s
-  rise-end {i} w l = let z : i ≡ s.count = omega (arith, w.low) in w.same ∙ ap (λ (n : ℕ). shown_under (attributes usual ino) img s n) z
+  pub rise-end : {i : ℕ} {a : Option FileAttr} → Risen ino s i a → s.places.count ≤ i → attr_if a ≡ shown_in (attributes usual ino) s
+  rise-end {i} w l = let z : i ≡ s.places.count = omega (arith, w.low) in w.same ∙ ap (λ (n : ℕ). shown_lowest (attributes usual ino) s n) z

@@ -1,4 +1,3 @@
 -- Laws that the proofs of more than one function use, and that the crates above cite.
-pub mod Others
 pub mod Attrs
 pub mod Calls

@@ -6,14 +6,15 @@ ghost use Rattle.rules.specs.ReadCalls.{attr};
 ghost use Rattle.deltas.specs.Deltas.{entry_meant};
 ghost use Rattle.layers.specs.Attrs.{EntryTargetIn, BaseLinkIn, attr_if};
 ghost use Rattle.layers.specs.Answered.{answered};
-ghost use Rattle.stack.specs.Stacks.{Stacked, shown, node_meant_if};
+ghost use Rattle.stack.specs.Stacks.{node_meant_if};
+ghost use Rattle.stack.specs.InStack.{shown_in};
 
 use attrs::attr::{applied, initial_attr, node_attr};
 use attrs::node::FileAttr;
 use deltas::delta::EntryDelta;
 use nodes::node::Node;
-use stack::stack::{base_node, open_image, record_at};
-use survey::batch::InodeLayerStack;
+use stack::open::open_image;
+use stack::stack::Stack;
 use survey::refusal::Refusal;
 
 // The attributes of the inode.
@@ -21,8 +22,7 @@ pub fn attr(img: &[u8], ino: u64) -> Result<Option<FileAttr>, Refusal>
     ensures { answered attr_if result ≡ attr usual img.now ino }
 {
     let stack = open_image(img, ino)?;
-    let found = shown_attr(img, stack, ino);
-    Ok(found)
+    Ok(shown_attr(stack, ino))
 }
 
 // What a record makes of the attributes below it.
@@ -48,14 +48,13 @@ fn base_attr(base: Option<Node>, ino: u64) -> Option<FileAttr>
 }
 
 // From the bottom: the base's, and what each record makes of them.
-pub fn shown_attr(img: &[u8], stack: InodeLayerStack, ino: u64) -> Option<FileAttr>
-    requires { Stacked img.now stack }
-    ensures { attr_if result ≡ shown (attributes usual ino) img.now stack }
+pub fn shown_attr(stack: Stack, ino: u64) -> Option<FileAttr>
+    ensures { attr_if result ≡ shown_in (attributes usual ino) stack.entry }
 {
-    let base = base_node(img, stack);
+    let base = stack.base();
     let mut attr = base_attr(base, ino);
-    for i in 0..stack.count {
-        let entry = record_at(img, stack, i);
+    for i in 0..stack.places.count {
+        let entry = stack.record(i);
         attr = step_attr(entry, attr, ino);
     }
     attr

@@ -46,6 +46,9 @@ line-of-short e = go (base_attr e.0 (Some e.1))
     go None = omega arith
     go (Some a) = line-short a
 
+pub refusal-short : (n : ℕ) → length (refusal n) ≤ longest
+refusal-short n = simp length-append (omega (arith, digits-few 10 22 1 n))
+
 -- ---- the pieces
 
 -- what was written at the start of a buffer that has room for it
@@ -79,10 +82,18 @@ next-rows {img} {rows = rows} {r} h z n = go h.0 h.1
     go [] s = absurd (z s.count)
     go (e ∷ l) s = (l, n.rest e l s)
 
--- ---- the whole: all that is written, in either case, is `listing_bytes` of the image
+-- where what was written at the start of a buffer ends
+pub put-ends : {old new bs : List ℕ} {n : ℕ} → Put old 0 bs n new → length bs ≤ longest → n ≤ longest
+put-ends p h = omega (arith, p.to)
 
-refusal-short : (n : ℕ) → length (refusal n) ≤ longest
-refusal-short n = simp length-append (omega (arith, digits-few 10 22 1 n))
+pub line-ends : {img old new : List ℕ} {rows : Rows} {r : Line} → HasRows img rows → (rows.left ≡ 0 → ⊥) → NextLine img rows old r new → r.end ≤ longest
+line-ends {img} {rows = rows} {r} h z n = go h.0 h.1
+  where
+    go : (l : List (ℕ × M.Node)) → Listed img rows l → r.end ≤ longest
+    go [] s = absurd (z s.count)
+    go (e ∷ l) s = put-ends (n.line e l s) (line-of-short e)
+
+-- ---- the whole: all that is written, in either case, is `listing_bytes` of the image
 
 module _ {img old new : List ℕ} (lent : length old ≡ 65536) {buf line : List ℕ} {n : ℕ} (room : longest ≤ length buf) where
   -- the heading, and a piece for each inode

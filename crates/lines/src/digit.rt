@@ -1,29 +1,9 @@
 // Numbers as digits.
-ghost use Rattle.std.specs.Prelude.{◌≤◌, ◌<◌, ◌-◌, ◌≡◌, ◌&&◌, eqb};
+ghost use Rattle.std.specs.Prelude.{◌≤◌, ◌<◌};
 ghost use Rattle.wire.specs.Put.{Put};
 ghost use Rattle.lines.specs.Digits.{digits, decimal, octal};
 
-use wire::put::{put_bytes, put_part};
-
-// Whether no digit is left to write.
-fn is_done(rest: u64, least: u64) -> bool
-    ensures { result ≡ (eqb rest 0 && eqb least 0) }
-{
-    if rest == 0 {
-        return least == 0;
-    }
-    false
-}
-
-// One less, or 0.
-pub fn less_one(count: u64) -> u64
-    ensures { result ≡ count - 1 }
-{
-    if count == 0 {
-        return 0;
-    }
-    count - 1
-}
+use wire::put::put_bytes;
 
 // Writes the digits of `number` in `base`, at least `least` of them, and answers the place after them.
 fn put_digits(buf: &mut [u8], at: usize, number: u64, base: u64, least: u64) -> usize
@@ -34,12 +14,12 @@ fn put_digits(buf: &mut [u8], at: usize, number: u64, base: u64, least: u64) -> 
     let mut rest = number;
     let mut left = least;
     for i in (0..22).rev() {
-        if is_done(rest, left) {
-            return put_part(buf, at, &text, i + 1, 22);
+        if rest == 0 && left == 0 {
+            return put_bytes(buf, at, &text[i + 1..]);
         }
         text[i] = (rest % base + 48) as u8;
-        rest = rest / base;
-        left = less_one(left);
+        rest /= base;
+        left = left.saturating_sub(1);
     }
     put_bytes(buf, at, &text)
 }

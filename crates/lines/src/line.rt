@@ -1,15 +1,12 @@
 // A listing's heading, the line of an inode, and the line of a refusal.
-ghost use Rattle.std.specs.Prelude.{◌≡◌, [], ◌∷◌, ◌++◌};
+ghost use Rattle.std.specs.Prelude.{[], ◌∷◌, ◌++◌};
 ghost use Rattle.wire.specs.Put.{Put};
-ghost use Rattle.image.specs.Letters.{letter};
-ghost use Rattle.attrs.specs.Meant.{kind_meant, attr_meant};
+ghost use Rattle.attrs.specs.Meant.{attr_meant};
 ghost use Rattle.lines.specs.Digits.{decimal, octal};
 ghost use Rattle.lines.specs.Lines.{heading, line, refusal};
 
 use crate::digit::{put_decimal, put_octal};
-use attrs::attr::type_row;
-use attrs::node::{FileAttr, FileType};
-use image::kind::type_letter;
+use attrs::node::FileAttr;
 use wire::put::{put_byte, put_bytes};
 
 // Writes the heading.
@@ -17,17 +14,6 @@ pub fn put_heading(buf: &mut [u8], at: usize) -> usize
     ensures { Put buf.old at heading result buf.new }
 {
     put_bytes(buf, at, b"INODE T MODE LINKS SIZE\n")
-}
-
-// The letter of a type.
-fn letter_of(file_type: FileType) -> u8
-    ensures { result ≡ letter (kind_meant file_type) }
-{
-    let found = type_letter(type_row(file_type) as u64);
-    match found {
-        Some(byte) => byte,
-        None => b'?',
-    }
 }
 
 // Writes a number in decimal, and a byte behind it.
@@ -52,8 +38,7 @@ fn put_mode(buf: &mut [u8], at: usize, letter: u8, perm: u64) -> usize
 pub fn put_line(buf: &mut [u8], at: usize, attr: FileAttr) -> usize
     ensures { Put buf.old at (line (attr_meant attr)) result buf.new }
 {
-    let file_type = attr.file_type;
-    let letter = letter_of(file_type);
+    let letter = attr.file_type.letter();
     let named = put_field(buf, at, attr.ino, b' ');
     let moded = put_mode(buf, named, letter, attr.perm as u64);
     let linked = put_field(buf, moded, attr.nlink as u64, b' ');

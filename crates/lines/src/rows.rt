@@ -1,7 +1,6 @@
 // The snapshot that a listing shows, and its lines, one inode after the other.
 ghost use Rattle.lines.specs.Rows.{FirstRows, OpensListing, NextLine, ReadsRow};
 
-use crate::digit::less_one;
 use crate::line::put_line;
 use attrs::attr::node_attr;
 use flush::flush::snapshot_all;
@@ -46,7 +45,7 @@ fn first_rows(img: &[u8]) -> Rows
 pub fn put_next(buf: &mut [u8], snapshot: &[u8], rows: Rows) -> Line
     ensures { NextLine snapshot.now rows buf.old result buf.new }
 {
-    let left = less_one(rows.left);
+    let left = rows.left.saturating_sub(1);
     let Ok(((inode, node), at)) = read_row(snapshot, rows.at) else {
         return Line {
             end: 0,

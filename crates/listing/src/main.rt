@@ -10,7 +10,6 @@ use lines::line::{put_heading, put_refusal};
 use lines::rows::{Rows, open_listing, put_next};
 use std::io;
 use survey::refusal::Refusal;
-use wire::part::part;
 
 fn main(rt: HostRuntime) -> io::Result<()> {
     let mut image = [0u8; 65537];
@@ -29,7 +28,7 @@ fn list(rt: &impl Print, img: &[u8], target: &mut [u8]) -> io::Result<()> {
 fn write_refusal(rt: &impl Print, refusal: Refusal) -> io::Result<()> {
     let mut line = [0u8; 128];
     let end = put_refusal(&mut line, 0, refusal.number());
-    rt.write_all(part(&line, 0, end))
+    rt.write_all(&line[..end])
 }
 
 // The heading and the lines; it stops where nothing more can be written.
@@ -38,11 +37,11 @@ fn write_lines(rt: &impl Print, snapshot: &[u8], rows: Rows) -> io::Result<()>
 {
     let mut line = [0u8; 128];
     let end = put_heading(&mut line, 0);
-    rt.write_all(part(&line, 0, end))?;
+    rt.write_all(&line[..end])?;
     let mut rest = rows;
     for _ in 0..rows.left {
         let next = put_next(&mut line, snapshot, rest);
-        rt.write_all(part(&line, 0, next.end))?;
+        rt.write_all(&line[..next.end])?;
         rest = next.rest;
     }
     Ok(())

@@ -5,21 +5,17 @@ use mathlib.Core.Path.{◌≡◌, refl, sym, ap, ◌∙◌, subst}
 use mathlib.Core.List.{List}
 use Prim.Native.Nat.{ℕ, zero, suc, ◌+◌, ◌-◌, ◌≤◌, ◌<◌}
 use native.Mathlib.Omega.{arith}
-use lib.ListN.{get_or}
-use denote.Enum.Declared.{tag_of}
-use types.Run.{OneOf}
 use Rattle.wire.specs.declared.fault.Fault.{Fault}
 use Rattle.std.specs.declared.cmp.Ordering.TheVariants.{Less, Equal, Greater}
 use Rattle.wire.specs.Number.{edge, number_read}
 use Rattle.wire.specs.Orders.{by_bytes}
 use Rattle.wire.specs.Maps.{get, meet}
 use Rattle.wire.specs.Reading.{Reads}
-use Rattle.survey.specs.declared.batch.InodeLayerStack.{InodeLayerStack}
 use Rattle.image.specs.declared.name.Under.TheVariants as U
 use Rattle.image.specs.Meaning.{Text}
 use Rattle.image.specs.Under.{under}
-use Rattle.rules.specs.Reads.{child, step_child}
-use Rattle.wire.specs.declared.text.Part.{Part}
+use Rattle.rules.specs.Reads.{child, step_child, body_child}
+use Rattle.wire.specs.declared.part.Part.{Part}
 use Rattle.deltas.specs.declared.delta.DirectoryDelta.{DirectoryDelta}
 use Rattle.deltas.specs.declared.delta.NodeDelta.{NodeDelta}
 use Rattle.deltas.specs.declared.delta.NodeDelta.TheVariants as D
@@ -29,25 +25,23 @@ use Rattle.nodes.specs.declared.node.Node as M
 use Rattle.nodes.specs.declared.node.NodeKind.{NodeKind}
 use Rattle.nodes.specs.declared.node.NodeKind.TheVariants as K
 use Rattle.nodes.specs.Listed.{list_at, Listed}
-use Rattle.nodes.specs.Nodes.{EntriesListed}
+use Rattle.nodes.specs.Nodes.{EntriesListed, body_meant}
 use Rattle.deltas.specs.Deltas.{entry_meant}
-use Rattle.deltas.specs.contracts.delta.NodeDelta as delta
-use Rattle.nodes.specs.contracts.node.NodeKind as kind
 use Rattle.lookup.specs.declared.search.Rows.{Rows}
 use Rattle.lookup.specs.declared.search.RowRead.{RowRead}
-use Rattle.stack.specs.Stacks.{Stacked, shown_under, shown, RecordIs, BaseIs}
+use Rattle.stack.specs.Stacks.{BaseIs}
+use Rattle.stack.specs.InStack.{RecordIn, BaseIn, shown_lowest, shown_in}
+use Rattle.stack.specs.declared.stack.Stack.{Stack}
 use Rattle.lookup.specs.Search.{row_name, IsList, ListRows, ReadsRow, Finds}
 use Rattle.lookup.specs.Children.{child_under, EntriesAt, BaseEntries}
 use Rattle.stack.proofs.Walks.{shown-more, shown-base}
-use Rattle.deltas.proofs.Others.{not_directory}
-use Rattle.layers.proofs.Others.{other-child, other-base-child}
 use Rattle.lookup.proofs.Searching.{held_none, held-some, read_same, Seeks, seeks-list, seeks-on, seeks-here, seeks-past, seeks-end}
 
 -- ---- the entries of a layer
 
-under-is : (img : List ℕ) (s : InodeLayerStack) (name : Text) (n : ℕ) → 0 < n → child_under img s name n ≡ shown_under (child name) img s (n - 1)
-under-is img s name zero h = absurd (omega arith)
-under-is img s name (suc n) h = let y : suc n - 1 ≡ n = omega arith in rw y
+under-is : (s : Stack) (name : Text) (n : ℕ) → 0 < n → child_under s name n ≡ shown_lowest (child name) s (n - 1)
+under-is s name zero h = absurd (omega arith)
+under-is s name (suc n) h = let y : suc n - 1 ≡ n = omega arith in rw y
 
 alone : (o : Option ℕ) → o ≡ meet (λ inode x. Some inode) o None
 alone None = refl
@@ -57,107 +51,116 @@ entries-listed : (img : List ℕ) (p : Option ℕ) (n : M.Node) → BaseIs img p
 entries-listed img None n b = absurd b
 entries-listed img (Some p) n b = (b.end, b.reads.entries)
 
-module _ (img : List ℕ) (s : InodeLayerStack) where
+module _ (s : Stack) where
   -- "Last, a base directory's entries."
-  module _ (n : M.Node) (b : BaseIs img s.base (Some n)) where
-    pub base-directory : {parent : ℕ} {es : Part} → n.kind ≡ K.Directory parent es → BaseEntries img s (Some es)
+  module _ (n : M.Node) (b : BaseIn s (Some n)) where
+    pub base-directory : {parent : ℕ} {es : Part} → n.kind ≡ K.Directory parent es → BaseEntries s (Some es)
     base-directory {parent} {es} e name =
-        let g = entries-listed img s.base n b in
-        ((g.0, subst (λ (k : NodeKind). EntriesListed img k g.0) e g.1), shown-base (child name) img s (Some n) b ∙ rw e (alone (get by_bytes name (list_at img U.Inode es))))
+        let img = s.img.now in
+        let g = entries-listed img s.places.base n b in
+        let is = shown-base (child name) img s.places (Some n) b in
+        ((g.0, subst (λ (k : NodeKind). EntriesListed img k g.0) e g.1), is ∙ rw e (alone (get by_bytes name (list_at img U.Inode es))))
 
-    pub base-other : OneOf not_directory (tag_of kind.the_type n.kind) → BaseEntries img s None
-    base-other h name = shown-base (child name) img s (Some n) b ∙ other-base-child img n.kind h name
+    pub base-other : ((parent : ℕ) (es : Part) → n.kind ≡ K.Directory parent es → ⊥) → BaseEntries s None
+    base-other h name = shown-base (child name) s.img.now s.places (Some n) b ∙ go n.kind h
+      where
+        go : (k : NodeKind) → ((parent : ℕ) (es : Part) → k ≡ K.Directory parent es → ⊥) → body_child name (body_meant s.img.now k) ≡ None
+        go (K.Directory parent es) h = absurd (h parent es refl)
+        go (K.File size) h = refl
+        go (K.Symlink target) h = refl
+        go K.Fifo h = refl
+        go (K.CharDevice rdev) h = refl
+        go (K.BlockDevice rdev) h = refl
+        go K.Socket h = refl
 
-  pub base-none : BaseIs img s.base None → BaseEntries img s None
-  base-none b name = shown-base (child name) img s None b
+  pub base-none : BaseIn s None → BaseEntries s None
+  base-none b name = shown-base (child name) s.img.now s.places None b
 
-module _ {img : List ℕ} {s : InodeLayerStack} where
-  module _ {layer : ℕ} {e : EntryDelta} (h : Stacked img s × (layer ≤ s.count)) (z : layer ≡ 0 → ⊥) (g : RecordIs img (get_or s.deltas (layer - 1) 0) e) (name : Text) where
-    stands : shown_under (child name) img s layer ≡ step_child name (entry_meant img e) (child_under img s name layer)
+  module _ {layer : ℕ} {e : EntryDelta} (l : layer ≤ s.places.count) (z : layer ≡ 0 → ⊥) (g : RecordIn s (layer - 1) e) (name : Text) where
+    pub stands : shown_lowest (child name) s layer ≡ step_child name (entry_meant s.img.now e) (child_under s name layer)
     stands =
         let y : layer ≡ layer - 1 + 1 = omega arith in
-        ap (λ (n : ℕ). shown_under (child name) img s n) y ∙ shown-more h.0 (child name) (layer - 1) (omega (arith, h.1)) g
-        ∙ ap (step_child name (entry_meant img e)) (sym (under-is img s name layer (omega arith)))
-
-    -- "Tombstone: none."
-    pub at-tombstone : e ≡ E.Tombstone → EntriesAt img s name layer None
-    at-tombstone d = stands ∙ rw d
-
-    -- "Other kind: none."
-    pub at_other : {n : NodeDelta} → e ≡ E.Node n → OneOf not_directory (tag_of delta.the_type n) → EntriesAt img s name layer None
-    at_other {n} d k = stands ∙ (rw d (other-child img n k name _))
+        ap (λ (n : ℕ). shown_lowest (child name) s n) y ∙ shown-more s.stacked (child name) (layer - 1) (omega arith) g
+        ∙ ap (step_child name (entry_meant s.img.now e)) (sym (under-is s name layer (omega arith)))
 
     -- "Directory delta: removed name, none; else added name, its inode; else go on below."
     module _ {n : NodeDelta} {d : DirectoryDelta} (en : e ≡ E.Node n) (ed : n ≡ D.Directory d) where
-      lists : Listed img U.Inode d.added d.removed.start × Listed img U.Nothing d.removed g.end
+      lists : Listed s.img.now U.Inode d.added d.removed.start × Listed s.img.now U.Nothing d.removed g.end
       lists = rw (en, ed) at g.reads.lists
 
-      pub removed-listed : IsList img U.Nothing d.removed
+      pub removed-listed : IsList s.img.now U.Nothing d.removed
       removed-listed = (g.end, lists.1)
 
-      pub at-removed : {place : Option ℕ} {p : ℕ} → Finds img U.Nothing d.removed name place → place ≡ Some p → EntriesAt img s name layer None
-      at-removed {p = p} f y = let o = held-some img (under U.Nothing).read p (get by_bytes name (list_at img U.Nothing d.removed)) (rw y at f) in stands ∙ rw (en, ed, o.2)
+      pub at-removed : {place : Option ℕ} {p : ℕ} → Finds s.img.now U.Nothing d.removed name place → place ≡ Some p → EntriesAt s name layer None
+      at-removed {p = p} f y =
+          let img = s.img.now in
+          let o = held-some img (under U.Nothing).read p (get by_bytes name (list_at img U.Nothing d.removed)) (rw y at f) in
+          stands ∙ rw (en, ed, o.2)
 
-      pub at_added : {place : Option ℕ} → Finds img U.Nothing d.removed name place → place ≡ None → EntriesAt img s name layer (Some d.added)
+      pub at_added : {place : Option ℕ} → Finds s.img.now U.Nothing d.removed name place → place ≡ None → EntriesAt s name layer (Some d.added)
       at_added f y =
+          let img = s.img.now in
           let o = held_none img (under U.Nothing).read (get by_bytes name (list_at img U.Nothing d.removed)) (rw y at f) in
           ((d.removed.start, lists.0), stands ∙ rw (en, ed, o))
 
 -- ---- the walk
 
 -- The layers above this one name no child: the answer is that of this one and those below.
-pub record Above (img : List ℕ) (s : InodeLayerStack) (name : Text) (found : Option ℕ) (layer : ℕ) : Type 0 where
+pub record Above (s : Stack) (name : Text) (found : Option ℕ) (layer : ℕ) : Type 0 where
   pub none_yet : found ≡ None
-  pub low : layer ≤ s.count
-  pub same : shown (child name) img s ≡ shown_under (child name) img s layer
+  pub low : layer ≤ s.places.count
+  pub same : shown_in (child name) s ≡ shown_lowest (child name) s layer
 
 -- Nor does this one.
-pub record Passed (img : List ℕ) (s : InodeLayerStack) (name : Text) (found : Option ℕ) (layer : ℕ) : Type 0 where
+pub record Passed (s : Stack) (name : Text) (found : Option ℕ) (layer : ℕ) : Type 0 where
   pub none_yet : found ≡ None
-  pub low : layer ≤ s.count
-  pub same : shown (child name) img s ≡ child_under img s name layer
+  pub low : layer ≤ s.places.count
+  pub same : shown_in (child name) s ≡ child_under s name layer
 
 -- The rows of a layer that were passed neither: it is that of the rows left, or of the layers below.
-pub record Within (img : List ℕ) (s : InodeLayerStack) (name : Text) (found : Option ℕ) (layer here left : ℕ) : Type 0 where
+pub record Within (s : Stack) (name : Text) (found : Option ℕ) (layer here left : ℕ) : Type 0 where
   pub none_yet : found ≡ None
-  pub low : layer ≤ s.count
+  pub low : layer ≤ s.places.count
   pub has : Option ℕ
-  pub seeks : Seeks img U.Inode name here left has
-  pub same : shown (child name) img s ≡ meet (λ inode x. Some inode) has (child_under img s name layer)
+  pub seeks : Seeks s.img.now U.Inode name here left has
+  pub same : shown_in (child name) s ≡ meet (λ inode x. Some inode) has (child_under s name layer)
 
-module _ {img : List ℕ} {s : InodeLayerStack} {name : Text} where
-  pub above-start : Above img s name None s.count
+module _ {s : Stack} {name : Text} where
+  pub above-start : Above s name None s.places.count
   above-start = record { none_yet = refl; low = omega arith; same = refl }
 
-  module _ {found : Option ℕ} {layer : ℕ} (w : Above img s name found layer) where
-    pub above-decided : EntriesAt img s name layer None → found ≡ shown (child name) img s
+  module _ {found : Option ℕ} {layer : ℕ} (w : Above s name found layer) where
+    pub above-decided : EntriesAt s name layer None → found ≡ shown_in (child name) s
     above-decided e = rw (w.none_yet, w.same) (sym e)
 
-    pub above-into : {p : Part} {r : Rows} → EntriesAt img s name layer (Some p) → ListRows img U.Inode p r → Within img s name found layer r.first r.count
+    pub above-into : {p : Part} {r : Rows} → EntriesAt s name layer (Some p) → ListRows s.img.now U.Inode p r → Within s name found layer r.first r.count
     above-into {p} e l =
-        record { none_yet = w.none_yet; low = w.low; has = get by_bytes name (list_at img U.Inode p); seeks = seeks-list p l; same = w.same ∙ e.1 }
+        record { none_yet = w.none_yet; low = w.low; has = get by_bytes name (list_at s.img.now U.Inode p); seeks = seeks-list p l; same = w.same ∙ e.1 }
 
-  module _ {found : Option ℕ} {layer here left : ℕ} (w : Within img s name found layer here left) where
-    below : w.has ≡ None → Passed img s name found layer
+  module _ {found : Option ℕ} {layer here left : ℕ} (w : Within s name found layer here left) where
+    below : w.has ≡ None → Passed s name found layer
     below e = record { none_yet = w.none_yet; low = w.low; same = rw e at w.same }
 
-    pub within_end : left ≤ 0 → Passed img s name found layer
+    pub within_end : left ≤ 0 → Passed s name found layer
     within_end h = below (seeks-end w.seeks h)
 
-    module _ {r : RowRead} (h : 0 < left) (g : ReadsRow img U.Inode here r) where
-      pub within_on : by_bytes.cmp (row_name img r) name ≡ Less → Within img s name found layer r.next (left - 1)
+    module _ {r : RowRead} (h : 0 < left) (g : ReadsRow s.img.now U.Inode here r) where
+      pub within_on : by_bytes.cmp (row_name s.img.now r) name ≡ Less → Within s name found layer r.next (left - 1)
       within_on e = record { none_yet = w.none_yet; low = w.low; has = w.has; seeks = seeks-on w.seeks h g e; same = w.same }
 
-      pub within-past : by_bytes.cmp (row_name img r) name ≡ Greater → Passed img s name found layer
+      pub within-past : by_bytes.cmp (row_name s.img.now r) name ≡ Greater → Passed s name found layer
       within-past e = below (seeks-past w.seeks h g e)
 
       -- the inode under the name is the child
-      pub within-here : by_bytes.cmp (row_name img r) name ≡ Equal → {o : Result (ℕ × ℕ) Fault} {n m : ℕ} → Reads img (number_read edge) r.under o → o ≡ Ok (n, m) → Some n ≡ shown (child name) img s
+      pub within-here : by_bytes.cmp (row_name s.img.now r) name ≡ Equal → {o : Result (ℕ × ℕ) Fault} {n m : ℕ}
+          → Reads s.img.now (number_read edge) r.under o → o ≡ Ok (n, m) → Some n ≡ shown_in (child name) s
       within-here e a d = rw (read_same g.held a d) (sym (rw (seeks-here w.seeks h g e) at w.same))
 
-  module _ {found : Option ℕ} {layer : ℕ} (w : Passed img s name found layer) where
-    pub passed-on : 0 < layer → Above img s name found (layer - 1)
-    passed-on h = record { none_yet = w.none_yet; low = omega (arith, w.low); same = w.same ∙ under-is img s name layer h }
+  module _ {found : Option ℕ} {layer : ℕ} (w : Passed s name found layer) where
+    pub passed-on : 0 < layer → Above s name found (layer - 1)
+    passed-on h = record { none_yet = w.none_yet; low = omega (arith, w.low); same = w.same ∙ under-is s name layer h }
 
-    pub passed-last : layer ≤ 0 → found ≡ shown (child name) img s
+    pub passed-last : layer ≤ 0 → found ≡ shown_in (child name) s
     passed-last h = let z : layer ≡ 0 = omega arith in rw (w.none_yet, w.same, z)
+
+pub ruleset layers = (at-removed, at_added)

@@ -26,7 +26,7 @@ use Rattle.image.specs.Places.{Ends, rows_from, Holds}
 use Rattle.image.proofs.Passing.{ends-got, ends-fault}
 use Rattle.image.proofs.Holding.{apart}
 use Rattle.nodes.specs.Listed.{by_name, list_at, Listed}
-use Rattle.wire.specs.declared.text.Part.{Part}
+use Rattle.wire.specs.declared.part.Part.{Part}
 use Rattle.lookup.specs.declared.search.Rows.{Rows}
 use Rattle.lookup.specs.declared.search.RowRead.{RowRead}
 use Rattle.lookup.specs.Search.{row_name, Standing, ListRows, RowAt, ReadsRow}
@@ -111,7 +111,7 @@ module _ {img : List ℕ} (u : U.Under) {at : ℕ} (h : RowAt img u at) {o : Res
         go (Ok q) g = refl
         go (Err f) g = never-got (sym (ends-fault g) ∙ valued)
 
-    pub reads-row : {q : ℕ} → w ≡ Ok q → ReadsRow img u at (record { start = k.start; «length» = k.length; under = m; next = q })
+    pub reads-row : {q : ℕ} → w ≡ Ok q → ReadsRow img u at (record { name = k; under = m; next = q })
     reads-row {q} e =
         let b = rw d at a in
         let f = rw e at g in

@@ -11,13 +11,13 @@ use Rattle.image.specs.FieldLayout.{name}
 use Rattle.image.specs.Under.{UnderName, under}
 use Rattle.image.specs.Places.{rows_from, Holds}
 use Rattle.nodes.specs.Listed.{list_at, Listed}
-use Rattle.wire.specs.declared.text.Part.{Part}
+use Rattle.wire.specs.declared.part.Part.{Part}
 use Rattle.lookup.specs.declared.search.Rows.{Rows}
 use Rattle.lookup.specs.declared.search.RowRead.{RowRead}
 
 -- the name of a row
 abbrev pub row_name : List ℕ → RowRead → Text
-row_name img r = part img r.start r.length
+row_name img r = part img r.name.start r.name.length
 
 module _ (img : List ℕ) (u : Under) where
   -- a list stands at its place

@@ -3,7 +3,7 @@ ghost use Rattle.std.specs.Prelude.{◌≤◌, ◌≡◌};
 ghost use Rattle.rules.specs.Initial.{usual};
 ghost use Rattle.rules.specs.Reads.{child};
 ghost use Rattle.rules.specs.ReadCalls.{lookup_child};
-ghost use Rattle.stack.specs.Stacks.{Stacked, shown};
+ghost use Rattle.stack.specs.InStack.{shown_in};
 ghost use Rattle.layers.specs.Answered.{answered};
 ghost use Rattle.lookup.specs.Children.{EntriesAt, BaseEntries};
 
@@ -12,42 +12,40 @@ use deltas::delta::{EntryDelta, NodeDelta};
 use image::name::Under;
 use nodes::node::NodeKind;
 use stack::name::open_named;
-use stack::stack::{base_node, record_at};
+use stack::stack::Stack;
 use std::cmp::Ordering;
-use survey::batch::InodeLayerStack;
 use survey::refusal::Refusal;
 use wire::number::read_number;
 use wire::order::compare_part;
-use wire::text::Part;
+use wire::part::Part;
 
 // The inode that a name leads to in a directory.
 pub fn lookup_child(img: &[u8], ino: u64, name: &[u8]) -> Result<Option<u64>, Refusal>
     ensures { answered (λ inode. inode) result ≡ lookup_child usual img.now ino name.now }
 {
     let stack = open_named(img, ino, name)?;
-    let child = child_in(img, stack, name);
+    let child = child_in(stack, name);
     Ok(child)
 }
 
 // From the top: the first layer that names the child, or removes it, decides. The base is layer 0.
-fn child_in(img: &[u8], stack: InodeLayerStack, name: &[u8]) -> Option<u64>
-    requires { Stacked img.now stack }
-    ensures { result ≡ shown (child name.now) img.now stack }
+// Not a `Question`, but one loop over layers and rows: it is the hot path.
+fn child_in(stack: Stack, name: &[u8]) -> Option<u64>
+    ensures { result ≡ shown_in (child name.now) stack.entry }
 {
     let mut found = None;
-    'layers: for layer in (0..=stack.count).rev() {
-        let names = entries_at(img, stack, layer, name);
-        let Some(list) = names else {
+    'layers: for layer in (0..=stack.places.count).rev() {
+        let Some(list) = entries_at(stack, layer, name) else {
             break 'layers;
         };
-        let rows = rows_of(img, list, Under::Inode);
+        let rows = rows_of(stack.img, list, Under::Inode);
         let mut here = rows.first;
         for _ in 0..rows.count {
-            let row = read_row(img, here, Under::Inode);
-            match compare_part(img, row.start, row.length, name) {
+            let row = read_row(stack.img, here, Under::Inode);
+            match compare_part(stack.img, row.name, name) {
                 Ordering::Less => {}
                 Ordering::Equal => {
-                    let (inode, _) = read_number(img, row.under, u64::MAX).unwrap();
+                    let (inode, _) = read_number(stack.img, row.under, u64::MAX).unwrap();
                     found = Some(inode);
                     break 'layers;
                 }
@@ -60,40 +58,28 @@ fn child_in(img: &[u8], stack: InodeLayerStack, name: &[u8]) -> Option<u64>
 }
 
 // The entries that a layer adds, or those of the base. None, where the layer decides that there is no such child.
-fn entries_at(img: &[u8], stack: InodeLayerStack, layer: usize, name: &[u8]) -> Option<Part>
-    requires { Stacked img.now stack × (layer ≤ stack.count) }
-    ensures { EntriesAt img.now stack name.now layer result }
+#[tactic(auto, using(crate::proofs::Children::layers))]
+fn entries_at(stack: Stack, layer: usize, name: &[u8]) -> Option<Part>
+    requires { layer ≤ stack.places.count }
+    ensures { EntriesAt stack.entry name.now layer result }
 {
     if layer == 0 {
-        return base_entries(img, stack);
+        return base_entries(stack);
     }
-    let delta = record_at(img, stack, layer - 1);
-    let EntryDelta::Node(node) = delta else {
+    let EntryDelta::Node(NodeDelta::Directory(directory)) = stack.record(layer - 1) else {
         return None;
     };
-    let NodeDelta::Directory(directory) = node else {
-        return None;
-    };
-    let added = directory.added;
-    let removed = directory.removed;
-    let place = find_name(img, removed, Under::Nothing, name);
-    match place {
+    match find_name(stack.img, directory.removed, Under::Nothing, name) {
         Some(_) => None,
-        None => Some(added),
+        None => Some(directory.added),
     }
 }
 
 // The entries of a base directory.
-pub fn base_entries(img: &[u8], stack: InodeLayerStack) -> Option<Part>
-    requires { Stacked img.now stack }
-    ensures { BaseEntries img.now stack result }
+pub fn base_entries(stack: Stack) -> Option<Part>
+    ensures { BaseEntries stack.entry result }
 {
-    let base = base_node(img, stack);
-    let Some(node) = base else {
-        return None;
-    };
-    let kind = node.kind;
-    match kind {
+    match stack.base()?.kind {
         NodeKind::Directory { parent: _, entries } => Some(entries),
         _ => None,
     }

@@ -6,7 +6,8 @@ use image::name::{Under, pass_under};
 use std::cmp::Ordering;
 use wire::number::read_number;
 use wire::order::compare_part;
-use wire::text::{Part, read_text};
+use wire::part::Part;
+use wire::text::read_text;
 
 // Rows of a list: the place of the first, and how many there are.
 #[derive(Clone, Copy)]
@@ -18,8 +19,7 @@ pub struct Rows {
 // A row: its name, the place of what stands under the name, and the place after that.
 #[derive(Clone, Copy)]
 pub struct RowRead {
-    pub start: usize,
-    pub length: usize,
+    pub name: Part,
     pub under: usize,
     pub next: usize,
 }
@@ -40,12 +40,7 @@ pub fn read_row(img: &[u8], at: usize, what: Under) -> RowRead
 {
     let (name, under) = read_text(img, at, 1, 255).unwrap();
     let next = pass_under(img, under, what).unwrap();
-    RowRead {
-        start: name.start,
-        length: name.length,
-        under,
-        next,
-    }
+    RowRead { name, under, next }
 }
 
 // The place of what stands under a name. Names rise, so one that is greater ends the search.
@@ -57,7 +52,7 @@ pub fn find_name(img: &[u8], list: Part, what: Under, name: &[u8]) -> Option<usi
     let mut here = rows.first;
     for _ in 0..rows.count {
         let row = read_row(img, here, what);
-        match compare_part(img, row.start, row.length, name) {
+        match compare_part(img, row.name, name) {
             Ordering::Less => {}
             Ordering::Equal => return Some(row.under),
             Ordering::Greater => return None,

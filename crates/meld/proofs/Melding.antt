@@ -18,7 +18,7 @@ use Rattle.image.specs.Masks.{maybe}
 use Rattle.image.specs.FieldLayout.{name, value}
 use Rattle.image.specs.RecordLayout.{changes}
 use Rattle.nodes.specs.Listed.{list_at, list_of, Listed, ListedIf}
-use Rattle.wire.specs.declared.text.Part.{Part}
+use Rattle.wire.specs.declared.part.Part.{Part}
 use Rattle.writers.proofs.Writing.{list_written}
 use Rattle.records.proofs.Records.{list-bytes}
 use Rattle.rules.specs.Changes.{merge_changes}
@@ -85,7 +85,8 @@ list-rows {bytes} {p} {end} h =
     let t = drop end bytes in
     let f = changes-one.forth (drop p.start bytes) m t h.is in
     let e : drop p.start bytes ≡ number_bytes (length l) ++ (rows_bytes name (maybe value) l ++ t) =
-    f.0 ∙ ap (λ (x : List ℕ). (number_bytes (length l) ++ x) ++ t) (chain-rows by_bytes name (maybe value) None l) ∙ append_assoc (number_bytes (length l)) (rows_bytes name (maybe value) l) t in
+    f.0 ∙ ap (λ (x : List ℕ). (number_bytes (length l) ++ x) ++ t) (chain-rows by_bytes name (maybe value) None l)
+    ∙ append_assoc (number_bytes (length l)) (rows_bytes name (maybe value) l) t in
     ap (λ (s : List ℕ). or_end (number_read last_count s) rows_read) e
     ∙ rw ((number_to last_count refl).back (length l) (rows_bytes name (maybe value) l ++ t) (omega (arith, f.1.count))) (rows_back l t f.1.each)
 

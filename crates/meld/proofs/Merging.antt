@@ -6,13 +6,11 @@ use mathlib.Core.Path.{◌≡◌, refl, sym, ap, ◌∙◌}
 use mathlib.Core.List.{List, [], ◌++◌, append_assoc}
 use Prim.Native.Nat.{ℕ, zero, suc, ◌+◌, ◌-◌, ◌≤◌, ◌<◌}
 use native.Mathlib.Omega.{arith}
-use mir.Syntax.{w64}
-use mir.Val.{Fits}
 use lib.ListN.{length, drop, length-append, length-drop}
 use Rattle.std.specs.declared.cmp.Ordering.{Ordering}
 use Rattle.std.specs.declared.cmp.Ordering.TheVariants.{Less, Equal, Greater}
 use Rattle.wire.specs.declared.fault.Fault.{Fault}
-use Rattle.wire.specs.declared.text.Part.{Part}
+use Rattle.wire.specs.declared.part.Part.{Part}
 use Rattle.wire.specs.Orders.{by_bytes}
 use Rattle.wire.specs.Parse.{fault, got}
 use Rattle.wire.specs.Number.{edge, number_bytes, number_read}
@@ -29,7 +27,8 @@ use Rattle.image.proofs.Passing.{ends-got, ends-fault}
 use Rattle.nodes.specs.Options.{text_at}
 use Rattle.change.specs.Sections.{Spans}
 use Rattle.change.specs.Cuts.{rows_below, rows_above, rows_bytes}
-use Rattle.meld.specs.Merged.{melded, change_bytes, rows_read, rows_in, RowsFrom, Leads, RowIs, own_turn, lower_turn, both_rows, turn_bytes, Goes, TurnIs, PutsRows, merged_rows, merged_bytes}
+use Rattle.meld.specs.Merged.{melded, change_bytes, rows_read, rows_in, RowsFrom, Leads, RowIs, own_turn, lower_turn}
+use Rattle.meld.specs.Merged.{both_rows, turn_bytes, Goes, TurnIs, PutsRows, merged_rows, merged_bytes}
 use Rattle.meld.specs.declared.row.Left.{Left}
 use Rattle.meld.specs.declared.row.Row.{Row}
 use Rattle.meld.specs.declared.merged.Turn.{Turn}
@@ -193,40 +192,31 @@ pub record Merging (img given buf₀ : List ℕ) (at : ℕ) (first : Option Turn
   pub low : end ≤ edge
   pub short : length buf < edge
 
-pub merging-none : {img given buf : List ℕ} {at : ℕ} {turn : Option Turn} → length buf < edge → Fits w64 at → Merging img given buf at turn buf turn at 0
-merging-none h k = record { on = λ q l p. p; counts = omega arith; few = omega arith; low = omega (arith, k.fits); short = h }
-
 module _ {img given buf₀ : List ℕ} {at : ℕ} {first : Option Turn} {buf : List ℕ} {next : Option Turn} {end count : ℕ}
     (m : Merging img given buf₀ at first buf next end count) where
-  module _ {turn : Turn} (e : next ≡ Some turn) where
-    pub merging-few : {new old : Left} → TurnIs img given new old first → count + 1 ≤ new.count + old.count
-    merging-few t = let z = rw e at m.few in omega (arith, z, turn-size first t)
+  pub merging-more : {turn : Turn} {turn' : Option Turn} {buf' : List ℕ} {end' : ℕ} → next ≡ Some turn → TurnIs img given turn.new turn.old turn'
+      → Put buf end (turn_bytes img given turn) end' buf' → Merging img given buf₀ at first buf' turn' end' (count + 1)
+  merging-more {turn' = turn'} e t p =
+      let z = rw e at m.counts in
+      let f = rw e at m.few in
+      record {
+        on = λ q l x. m.on q l (rw e (put-append p (rw (turn-bytes turn' t) at x)));
+        counts = omega (arith, z, turn-count turn' t);
+        few = omega (arith, f, turn-size turn' t);
+        low = omega (arith, p.to);
+        short = omega (arith, p.short, put-length p);
+      }
 
-    module _ {turn' : Option Turn} (t : TurnIs img given turn.new turn.old turn') where
-      pub merging-less : turn_size turn' < turn_size next
-      merging-less = rw e (omega (arith, turn-size turn' t))
-
-      pub merging-more : {buf' : List ℕ} {end' : ℕ} → Put buf end (turn_bytes img given turn) end' buf'
-          → Merging img given buf₀ at first buf' turn' end' (count + 1)
-      merging-more {buf'} {end'} p =
-          let z = rw e at m.counts in
-          let f = rw e at m.few in
-          record {
-            on = λ q l x. m.on q l (rw e (put-append p (rw (turn-bytes turn' t) at x)));
-            counts = omega (arith, z, turn-count turn' t);
-            few = omega (arith, f, turn-size turn' t);
-            low = omega (arith, p.to);
-            short = omega (arith, p.short, put-length p);
-          }
-
-  pub merging-all : {new old : Left} → TurnIs img given new old first → next ≡ None → PutsRows img given new old buf₀ at (record { end = end; count = count }) buf
+  pub merging-all : {new old : Left} → TurnIs img given new old first → next ≡ None
+      → PutsRows img given new old buf₀ at (record { end = end; count = count }) buf
   merging-all t e =
       let x : Put buf end [] end buf = record { to = omega (arith, m.low); is = refl; short = m.short } in
       let z = rw e at m.counts in
       record { put = rw (← (turn-bytes first t)) (m.on end buf (rw e x)); counts = omega (arith, z, turn-count first t) }
 
 -- the count, and the rows
-pub merged-put : {img given : List ℕ} {new old at first : ℕ} {a b : Left} {buf empty mid measured end : List ℕ} {c r : MergedRows} → RowsFrom given new a → RowsFrom img old b
+pub merged-put : {img given : List ℕ} {new old at first : ℕ} {a b : Left} {buf empty mid measured end : List ℕ} {c r : MergedRows}
+    → RowsFrom given new a → RowsFrom img old b
     → PutsRows img given a b empty 0 c measured → Put buf at (number_bytes c.count) first mid → PutsRows img given a b mid first r end
     → Put buf at (merged_bytes img given new old) r.end end
 merged-put {img} {given} {new} {old} {a = a} {b} x y k p q =

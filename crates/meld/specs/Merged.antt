@@ -1,6 +1,6 @@
 -- Two lists of attribute changes merged. Document 01: "attribute by attribute".
-use Rattle.wire.specs.declared.text.Part.{Part}
-use Rattle.std.specs.Prelude.{◌≡◌, true, false, cond, List, [], ◌∷◌, ◌++◌, ℕ, zero, suc, ◌+◌, ◌≤◌, ◌<◌, length, drop, None, Option, Some}
+use Rattle.wire.specs.declared.part.Part.{Part}
+use Rattle.std.specs.Prelude.{◌≡◌, List, [], ◌∷◌, ◌++◌, ℕ, zero, suc, ◌+◌, ◌≤◌, ◌<◌, length, drop, None, Option, Some}
 use Rattle.wire.specs.Parse.{Parsed, fault, got}
 use Rattle.wire.specs.Order.{Order}
 use Rattle.wire.specs.Orders.{by_bytes}
@@ -16,6 +16,8 @@ use Rattle.change.specs.Sections.{between}
 use Rattle.change.specs.Cuts.{rows_below, rows_above, rows_bytes}
 use Rattle.meld.specs.declared.row.Left.{Left}
 use Rattle.meld.specs.declared.row.Row.{Row}
+use Rattle.meld.specs.declared.merged.Side.{Side}
+use Rattle.meld.specs.declared.merged.Side.TheVariants as S
 use Rattle.meld.specs.declared.merged.Turn.{Turn}
 use Rattle.meld.specs.declared.merged.MergedRows.{MergedRows}
 
@@ -75,19 +77,24 @@ pub record RowIs (bytes : List ℕ) (l : Left) (r : Option Row) : Type 0 where
 
 -- the row given, and then these rows
 abbrev pub own_turn : Left → Row → Left → Turn
-own_turn new upper old = record { own = true; start = new.first; end = upper.rest.first; new = upper.rest; old = old }
+own_turn new upper old = record { side = S.Given; start = new.first; end = upper.rest.first; new = upper.rest; old = old }
 
 -- the row of the image, and then what is left
 abbrev pub lower_turn : Left → Left → Row → Turn
-lower_turn new old lower = record { own = false; start = old.first; end = lower.rest.first; new = new; old = lower.rest }
+lower_turn new old lower = record { side = S.Old; start = old.first; end = lower.rest.first; new = new; old = lower.rest }
 
 module _ (img given : List ℕ) where
   -- the rows of both
   abbrev pub both_rows : Left → Left → List ChangeRow
   both_rows new old = melded by_bytes (rows_in given new) (rows_in img old)
 
+  -- the bytes that hold a side's list
+  abbrev pub side_bytes : Side → List ℕ
+  side_bytes S.Given = given
+  side_bytes S.Old = img
+
   abbrev pub turn_bytes : Turn → List ℕ
-  turn_bytes r = between (cond r.own given img) r.start r.end
+  turn_bytes r = between (side_bytes r.side) r.start r.end
 
   -- this turn's row is the next of both
   pub record Goes (new old : Left) (r : Turn) : Type 0 where

@@ -10,14 +10,20 @@ use records::write_node::put_list_if;
 use std::cmp::Ordering;
 use wire::number::put_number;
 use wire::order::compare_part;
-use wire::part::part;
+use wire::part::Part;
 use wire::put::put_part;
-use wire::text::Part;
 
-// The next row, from `start` to `end`: one of the delta given, or of the image. Then the rows left of both.
+// Which of the two lists a row is of: that of the delta given, or that of the image.
+#[derive(Clone, Copy)]
+pub enum Side {
+    Given,
+    Old,
+}
+
+// The next row, from `start` to `end` on its side. Then the rows left of both.
 #[derive(Clone, Copy)]
 pub struct Turn {
-    pub own: bool,
+    pub side: Side,
     pub start: usize,
     pub end: usize,
     pub new: Left,
@@ -49,8 +55,8 @@ fn turn_between(img: &[u8], given: &[u8], new: Left, upper: Row, old: Left, lowe
 {
     let name = upper.name;
     let below = lower.rest;
-    let other = part(img, lower.name.start, lower.name.length);
-    match compare_part(given, name.start, name.length, other) {
+    let other = lower.name.of(img);
+    match compare_part(given, name, other) {
         Ordering::Less => own_turn(new, upper, old),
         Ordering::Equal => own_turn(new, upper, below),
         Ordering::Greater => lower_turn(new, old, lower),
@@ -62,7 +68,7 @@ fn own_turn(new: Left, upper: Row, old: Left) -> Turn
     ensures { result ≡ own_turn new upper old }
 {
     Turn {
-        own: true,
+        side: Side::Given,
         start: new.first,
         end: upper.rest.first,
         new: upper.rest,
@@ -75,7 +81,7 @@ fn lower_turn(new: Left, old: Left, lower: Row) -> Turn
     ensures { result ≡ lower_turn new old lower }
 {
     Turn {
-        own: false,
+        side: Side::Old,
         start: old.first,
         end: lower.rest.first,
         new,
@@ -86,10 +92,10 @@ fn lower_turn(new: Left, old: Left, lower: Row) -> Turn
 fn put_turn(buf: &mut [u8], at: usize, img: &[u8], given: &[u8], turn: Turn) -> usize
     ensures { Put buf.old at (turn_bytes img.now given.now turn) result buf.new }
 {
-    if turn.own {
-        return put_between(buf, at, given, turn.start, turn.end);
+    match turn.side {
+        Side::Given => put_between(buf, at, given, turn.start, turn.end),
+        Side::Old => put_between(buf, at, img, turn.start, turn.end),
     }
-    put_between(buf, at, img, turn.start, turn.end)
 }
 
 // The place after the rows, and how many they are.
@@ -149,7 +155,7 @@ pub fn put_changes(
     match new {
         Some(above) => match old {
             Some(below) => put_merged(buf, at, img, given, above.start, below.start),
-            None => put_part(buf, at, given, above.start, above.length),
+            None => put_part(buf, at, given, above),
         },
         None => put_list_if(buf, at, img, old),
     }

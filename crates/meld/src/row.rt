@@ -4,7 +4,8 @@ ghost use Rattle.meld.specs.Merged.{RowsFrom, RowIs};
 use image::field::LAST_WORD;
 use image::name::{Under, pass_under};
 use wire::number::read_number;
-use wire::text::{Part, read_text};
+use wire::part::Part;
+use wire::text::read_text;
 
 // The rows that are left of a list: `count` of them, the first at `first`.
 #[derive(Clone, Copy)]

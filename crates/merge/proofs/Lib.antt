@@ -3,6 +3,5 @@ pub mod Piles
 pub mod Unite
 pub mod Lists
 pub mod Sourced
-pub mod Triples
 pub mod Merging
 pub mod Settling

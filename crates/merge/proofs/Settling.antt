@@ -1,8 +1,7 @@
 -- The rows that sources decide, one after the other.
 -- Assumes nothing.
-use Rattle.std.specs.Prelude.{None, Some}
+use Rattle.std.specs.Prelude.{None, Option, Some}
 use mathlib.Core.Path.{◌≡◌, refl, ap, ◌∙◌}
-use mathlib.Core.Bool.{true, false}
 use mathlib.Core.List.{List, map}
 use Prim.Native.Nat.{ℕ, ◌+◌, ◌≤◌, ◌<◌}
 use native.Mathlib.Omega.{arith}
@@ -10,84 +9,84 @@ use lib.ListN.{length, drop, length-drop}
 use lib.Seq.{length-take-le}
 use borrow.Author.Tests.{lt-ltb, le-ltb}
 use Rattle.wire.specs.Orders.{by_bytes}
-use Rattle.wire.specs.Reading.{part}
+use Rattle.nodes.specs.Options.{text_at}
 use Rattle.merge.specs.Pile.{total, least}
 use Rattle.merge.specs.Sources.{row_at}
-use Rattle.merge.specs.Merges.{sources_of, Least, PassedAll, Ready, given_by, plain_row, decided_rows, merge_rows, merge_of, Gives, count_of}
+use Rattle.merge.specs.Merges.{sources_of, Least, PassedAll, Ready, given_by, plain_row, decided_rows, Gives, count_of}
+use Rattle.merge.specs.declared.source.Source.{Source}
+use Rattle.merge.specs.declared.source.Given.{Given as GivenParts}
 use Rattle.merge.specs.declared.source.Head.{Head}
-use Rattle.merge.specs.declared.merge.Sources.{Sources}
+use Rattle.merge.specs.declared.merge.Row.{Row as GivenRow}
 use Rattle.merge.proofs.Piles.{ascend-pass}
 use Rattle.merge.proofs.Unite.{decisions-end, decisions-step, decisions-fewer}
 
 -- how many rows are left
-abbrev pub left_of : List ℕ → Sources → ℕ
-left_of img all = total (sources_of img all)
+abbrev pub left_of : List ℕ → List Source → ℕ
+left_of img l = total (sources_of img l)
 
 -- names that are not given were passed
-pub record Settling (img : List ℕ) (all rest : Sources) : Type 0 where
-  pub same : given_by img all ≡ given_by img rest
+pub record Settling (img : List ℕ) (l rest : List Source) : Type 0 where
+  pub same : given_by img l ≡ given_by img rest
   pub ready : Ready img rest
 
-pub settling-none : {img : List ℕ} {all : Sources} → Ready img all → Settling img all all
+pub settling-none : {img : List ℕ} {l : List Source} → Ready img l → Settling img l l
 settling-none r = record { same = refl; ready = r }
 
-module _ {img : List ℕ} {all rest : Sources} (g : Settling img all rest) {best : Head} (l : Least img rest best) where
-  pub settled-none : best.more ≡ false → Gives img all best rest
+module _ {img : List ℕ} {l rest : List Source} (g : Settling img l rest) {best : Option Head} (f : Least img rest best) where
+  pub settled-none : best ≡ None → Gives img l None rest
   settled-none e =
-      let n : least by_bytes (sources_of img rest) ≡ None = rw e at l.is in
+      let n : least by_bytes (sources_of img rest) ≡ None = rw e at f.is in
       let d = g.same ∙ decisions-end by_bytes (sources_of img rest) n in
-      record { settles = record { gives = rw e d; rows = rw e (ap (map plain_row) d); ready = g.ready } }
+      record { gives = d; rows = ap (map plain_row) d; ready = g.ready }
 
-  module _ (h : best.more ≡ true) {next : Sources} (p : PassedAll img rest best.start best.length next) where
-    found : least by_bytes (sources_of img rest) ≡ Some (row_at img best)
-    found = rw h at l.is
+  module _ {h : Head} (e : best ≡ Some h) {next : List Source} (p : PassedAll img rest h.name next) where
+    found : least by_bytes (sources_of img rest) ≡ Some (row_at img h)
+    found = rw e at f.is
 
     next-ready : Ready img next
-    next-ready = record { whole = p.whole; ascend = rw p.are (ascend-pass by_bytes (part img best.start best.length) (sources_of img rest) g.ready.ascend) }
+    next-ready = record { ascend = rw p.are (ascend-pass by_bytes (text_at img h.name) (sources_of img rest) g.ready.ascend) }
 
     pub settling-less : left_of img next < left_of img rest
     settling-less = rw p.are (decisions-fewer by_bytes (sources_of img rest) found)
 
-    pub settling-more : best.given ≡ false → Settling img all next
-    settling-more e = record { same = g.same ∙ decisions-step by_bytes (sources_of img rest) found g.ready.ascend ∙ rw (e, p.are); ready = next-ready }
+    pub settling-more : h.given ≡ None → Settling img l next
+    settling-more d = record { same = g.same ∙ decisions-step by_bytes (sources_of img rest) found g.ready.ascend ∙ rw (d, p.are); ready = next-ready }
 
-    pub settled-given : best.given ≡ true → Gives img all best next
-    settled-given e =
-        let z : length (part img best.start best.length) ≡ best.length = length-take-le best.length (drop best.start img) (omega (arith, length-drop best.start img, l.inside.ends)) in
-        let d = g.same ∙ decisions-step by_bytes (sources_of img rest) found g.ready.ascend in
-        record { settles = record { gives = d ∙ rw (e, h, p.are); rows = ap (map plain_row) d ∙ rw (e, h, p.are, z); ready = next-ready } }
+    pub settled-given : {x : GivenParts} → h.given ≡ Some x → Gives img l (Some (record { name = h.name; given = x })) next
+    settled-given d =
+        let i = rw e at f.inside in
+        let z : length (text_at img h.name) ≡ h.name.length =
+        length-take-le h.name.length (drop h.name.start img) (omega (arith, length-drop h.name.start img, i)) in
+        let s = g.same ∙ decisions-step by_bytes (sources_of img rest) found g.ready.ascend in
+        record { gives = s ∙ rw (d, p.are); rows = ap (map plain_row) s ∙ rw (d, p.are, z); ready = next-ready }
 
 -- ---- how many
 
-pub record Counting (img : List ℕ) (room : ℕ) (h₀ : Head) (rest₀ : Sources) (h : Head) (rest : Sources) (n : ℕ) : Type 0 where
-  pub are : length (merge_rows img (merge_of h₀ rest₀)) ≡ n + length (merge_rows img (merge_of h rest))
+pub record Counting (img : List ℕ) (l rest : List Source) (room n : ℕ) : Type 0 where
+  pub are : length (decided_rows img l) ≡ n + length (decided_rows img rest)
   pub low : n ≤ room
   pub ready : Ready img rest
 
-pub counting-none : {img : List ℕ} {all : Sources} {room : ℕ} {h : Head} {rest : Sources} → Gives img all h rest → Counting img room h rest h rest 0
-counting-none t = record { are = omega arith; low = omega arith; ready = t.settles.ready }
+pub counting-none : {img : List ℕ} {l : List Source} {room : ℕ} → Ready img l → Counting img l l room 0
+counting-none r = record { are = omega arith; low = omega arith; ready = r }
 
-module _ {img : List ℕ} {all : Sources} {room : ℕ} {h₀ h : Head} {rest₀ rest : Sources} {n : ℕ} (t₀ : Gives img all h₀ rest₀) (g : Counting img room h₀ rest₀ h rest n) where
-  all-rows : length (decided_rows img all) ≡ n + length (merge_rows img (merge_of h rest))
-  all-rows = ap length t₀.settles.rows ∙ g.are
-
-  pub counting-all : h.more ≡ false → Some n ≡ count_of (length (decided_rows img all)) room
+module _ {img : List ℕ} {l rest next : List Source} {room n : ℕ} (g : Counting img l rest room n) {o : Option GivenRow} (t : Gives img rest o next) where
+  pub counting-all : o ≡ None → Some n ≡ count_of (length (decided_rows img l)) room
   counting-all e =
-      let z : length (decided_rows img all) ≡ n = rw e at all-rows ∙ omega arith in
+      let r = ap length (rw e at t.rows) in
+      let z : length (decided_rows img l) ≡ n = g.are ∙ omega (arith, r) in
       let low = g.low in
       rw (z, le-ltb room n low)
 
-  pub counting-full : h.more ≡ true → room ≤ n → None ≡ count_of (length (decided_rows img all)) room
-  counting-full e k =
-      let z = rw e at all-rows in
-      rw (lt-ltb room (length (decided_rows img all)) (omega (arith, z)))
+  module _ {x : GivenRow} (e : o ≡ Some x) where
+    one-row : length (decided_rows img rest) ≡ 1 + length (decided_rows img next)
+    one-row = ap length (rw e at t.rows) ∙ omega arith
 
-module _ {img : List ℕ} {room : ℕ} {h₀ h : Head} {rest₀ rest : Sources} {n : ℕ} (g : Counting img room h₀ rest₀ h rest n) (e : h.more ≡ true) {next : Head} {past : Sources} (t : Gives img rest next past) where
-  one-row : length (merge_rows img (merge_of h rest)) ≡ 1 + length (merge_rows img (merge_of next past))
-  one-row = rw (e, t.settles.rows) (omega arith)
+    pub counting-full : room ≤ n → None ≡ count_of (length (decided_rows img l)) room
+    counting-full k = rw (lt-ltb room (length (decided_rows img l)) (omega (arith, g.are, one-row)))
 
-  pub counting-less : length (merge_rows img (merge_of next past)) < length (merge_rows img (merge_of h rest))
-  counting-less = omega (arith, one-row)
+    pub counting-less : length (decided_rows img next) < length (decided_rows img rest)
+    counting-less = omega (arith, one-row)
 
-  pub counting_more : n < room → Counting img room h₀ rest₀ next past (n + 1)
-  counting_more k = record { are = omega (arith, g.are, one-row); low = omega arith; ready = t.settles.ready }
+    pub counting_more : n < room → Counting img l next room (n + 1)
+    counting_more k = record { are = omega (arith, g.are, one-row); low = omega arith; ready = t.ready }

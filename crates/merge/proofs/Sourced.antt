@@ -1,77 +1,51 @@
 -- How a source is read in the image, row by row.
 -- Assumes nothing.
-use Rattle.std.specs.Prelude.{Result, Ok, Err, None, Option, Some, is_some, unwrap_or}
-use Rattle.std.specs.Result.{result_unwrap_or}
+use Rattle.std.specs.Prelude.{Result, Ok, Err, None, Option, Some}
+use Rattle.std.specs.Result.{result_ok, result_unwrap_or}
 use mathlib.Core.Path.{◌≡◌, refl, sym, ap}
-use mathlib.Core.Bool.{Bool, true, false}
-use mathlib.Core.List.{List, [], ◌∷◌, ◌++◌}
+use mathlib.Core.List.{List, ◌∷◌, ◌++◌}
 use Prim.Native.Nat.{ℕ, zero, suc, ◌+◌, ◌-◌, ◌≤◌}
 use native.Mathlib.Omega.{arith}
 use lib.ListN.{length, drop, length-append, length-drop}
 use lib.Seq.{length-take-le}
 use Rattle.wire.specs.declared.fault.Fault.{Fault}
+use Rattle.wire.specs.declared.part.Part.{Part}
 use Rattle.wire.specs.Parse.{Parsed, fault, got, bind, never-got}
 use Rattle.wire.specs.Codec.{Codec, OneForm}
 use Rattle.wire.specs.Combinators.{◌then◌}
-use Rattle.wire.specs.Number.{edge, number_bytes, number_read, number-one, number_to}
+use Rattle.wire.specs.Number.{number_bytes, number_read, number-one, number_to}
 use Rattle.wire.specs.Text.{text-read}
 use Rattle.wire.specs.Lists.{last_count}
-use Rattle.wire.specs.Reading.{Reads, ReadsPart, part}
-use Rattle.wire.proofs.Readers.{read-end, read-stop, handed}
-use Rattle.image.specs.Places.{maybe_read}
+use Rattle.wire.specs.Reading.{Reads, ReadsPart, meant, part}
+use Rattle.wire.proofs.Readers.{read-end, read-stop}
 use Rattle.image.specs.FieldLayout.{name}
 use Rattle.image.specs.Under.{UnderName, under}
 use Rattle.image.specs.declared.name.Under.{Under}
 use Rattle.image.specs.declared.name.Under.TheVariants as U
-use Rattle.nodes.specs.Options.{text_at, text_of, ReadsText}
-use Rattle.wire.specs.declared.text.Part.{Part}
+use Rattle.nodes.specs.Fields.{ReadsAs}
 use Rattle.nodes.proofs.Values.{reads_made}
-use Rattle.rules.specs.Changes.{map_if}
-use Rattle.merge.specs.declared.source.Source.{Source}
+use Rattle.merge.specs.declared.source.Given.{Given as GivenParts}
 use Rattle.merge.specs.declared.source.Head.{Head}
-use Rattle.merge.specs.declared.source.Choice.{Choice}
-use Rattle.merge.specs.Sources.{Given, Decided, choice, decided, chosen, chosen_read, choice_meant, rows_if, rows_from, row_at, Chooses, Ended, NoRow, Inside, FirstRow, HeadOf, ListOf}
+use Rattle.merge.specs.Sources.{Given, Decided, choice, decided, chosen_read, rows_if, rows_from, given_if, row_at, HeadOf, ListOf}
 use Rattle.wire.proofs.OneForm.{then-one}
 use Rattle.wire.proofs.NumberForms.{number_to-one}
 use Rattle.image.proofs.OneForm.{name-one, under-one}
 
 -- ---- what stands under a name
 
-module _ {img : List ℕ} {at : ℕ} where
-  pub choice-nothing : {u : Under} {c : Choice} → u ≡ U.Nothing → at ≤ length img → c.given ≡ false → Chooses img u at (Ok (c, at))
-  choice-nothing e w g = rw e (record { reads = rw g (read-end w) })
+pub given-nothing : {img : List ℕ} {u : Under} {at : ℕ} → u ≡ U.Nothing → at ≤ length img → Reads img (chosen_read u) at (Ok (None, at))
+given-nothing e w = rw e (read-end w)
 
-  module _ {o : Result (ℕ × ℕ) Fault} (h : Reads img (number_read edge) at o) where
-    pub inode-stop : {f : Fault} {r : Result (Choice × ℕ) Fault} → o ≡ Err f → r ≡ Err f → Chooses img U.Inode at r
-    inode-stop d e = rw e (record { reads = read-stop _ (rw d at h) })
+-- a field is read, and says what the name is given
+module _ {V M : Type 0} {img : List ℕ} {p : List ℕ → Parsed M} {says : V → M} {Holds : V → ℕ → Type 0} {at : ℕ} {o : Result (V × ℕ) Fault}
+    (k : M → Option Given) (h : ReadsAs img p says Holds at o) where
+  pub given-stop : {f : Fault} {r : Result (Option GivenParts × ℕ) Fault} → o ≡ Err f → r ≡ Err f
+      → Reads img (λ s. bind (p s) (λ v r. got (k v) r)) at (meant (given_if img) r)
+  given-stop d e = rw e (read-stop _ (rw d at h).reads)
 
-    pub choice-inode : {n m : ℕ} {v : Part} → o ≡ Ok (n, m) → (v.start ≡ 0) × (v.length ≡ 0) → Chooses img U.Inode at (Ok (record { given = true; inode = n; value = v }, m))
-    choice-inode d z = let g = rw d at h in record { reads = rw z.1 (reads_made (number_read edge) (λ n. Some (n, [])) g) }
-
-  module _ {o : Result (Part × ℕ) Fault} (h : ReadsPart img (text-read 0 4096) at o) where
-    pub value-stop : {f : Fault} {r : Result (Choice × ℕ) Fault} → o ≡ Err f → r ≡ Err f → Chooses img U.Value at r
-    value-stop d e = let g = rw d at h in rw e (record { reads = read-stop {p = text-read 0 4096} _ (record { same = g.same; within = tt }) })
-
-    pub choice-value : {v : Part} {m : ℕ} → o ≡ Ok (v, m) → Chooses img U.Value at (Ok (record { given = true; inode = 0; value = v }, m))
-    choice-value d =
-        let g = rw d at h in
-        record { reads = reads_made (text-read 0 4096) (λ t. Some (0, t)) (record { same = g.same; within = omega (arith, g.within.0, g.within.1) }) }
-
-set-chosen : (img : List ℕ) (o : Option Part) (v : Part) → map_if (λ t. (0, t)) (text_of img o) ≡ chosen (is_some o) (0, text_at img (unwrap_or o v))
-set-chosen img (Some p) v = refl
-set-chosen img None v = refl
-
-module _ {img : List ℕ} {at : ℕ} {o : Result (Option Part × ℕ) Fault} (h : ReadsText img 4096 at o) where
-  pub change-stop : {f : Fault} {r : Result (Choice × ℕ) Fault} → o ≡ Err f → r ≡ Err f → Chooses img U.Change at r
-  change-stop d e = let g = rw d at h in rw e (record { reads = read-stop _ g.reads })
-
-  pub choice-change : {x : Option Part} {m : ℕ} {b : Bool} {v : Part} (w : Part) → o ≡ Ok (x, m) → b ≡ is_some x → v ≡ unwrap_or x w
-      → Chooses img U.Change at (Ok (record { given = b; inode = 0; value = v }, m))
-  choice-change {x} w d i f =
-      let g = rw d at h in
-      record { reads = rw (i, f, ← (set-chosen img x w)) (reads_made (maybe_read (text-read 0 4096)) (map_if (λ t. (0, t))) g.reads) }
-
-pub ruleset choices = (choice-nothing, inode-stop, choice-inode, value-stop, choice-value, change-stop, choice-change, handed)
+  pub given-made : {v : V} {m : ℕ} (g : Option GivenParts) → o ≡ Ok (v, m) → given_if img g ≡ k (says v)
+      → Reads img (λ s. bind (p s) (λ v r. got (k v) r)) at (meant (given_if img) (Ok (g, m)))
+  given-made g d e = rw e (reads_made p k (rw d at h).reads)
 
 -- ---- a row
 
@@ -89,20 +63,17 @@ unfolding rows_from
 rows-first img u zero p h = absurd (h refl)
 rows-first img u (suc n) p h = let z : suc n - 1 ≡ n = omega arith in rw z
 
-pub no-row-inside : {img : List ℕ} {h : Head} → NoRow h → Inside img h
-no-row-inside d = record { ends = omega (arith, d.no_name) }
-
-module _ {img : List ℕ} {u : Under} {n p : ℕ} {h : Head} where
-  pub head-none : n ≡ 0 → NoRow h → HeadOf img u n p h
+module _ {img : List ℕ} {u : Under} {n p : ℕ} where
+  pub head-none : n ≡ 0 → HeadOf img u n p None
   unfolding rows_from
-  head-none e d = record { are = rw (e, d.none_there); inside = no-row-inside d }
+  head-none e = record { are = rw e; inside = tt }
 
   -- a row that stands first is one of those left
-  pub head-some : HeadOf img u n p h → h.more ≡ true → 1 ≤ n
+  pub head-some : {h : Option Head} {x : Head} → HeadOf img u n p h → h ≡ Some x → 1 ≤ n
   unfolding rows_from
-  head-some d e = go n _ (rw e at d.are)
+  head-some {h} {x} d i = go n _ (rw i at d.are)
     where
-      go : (n : ℕ) (l : List Decided) → rows_from img u n p ≡ row_at img h ∷ l → 1 ≤ n
+      go : (n : ℕ) (l : List Decided) → rows_from img u n p ≡ row_at img x ∷ l → 1 ≤ n
       go zero l f = absurd (omega (arith, ap length f))
       go (suc m) l f = omega arith
 
@@ -131,49 +102,47 @@ module _ (img : List ℕ) (u : Under) (p start size : ℕ) where
       let z : m ≡ p + length (name.write k) = read-on img name name-one k p m (simp length-append (omega (arith, number-one (length k)))) t.within t.same in
       omega (arith, z, length-append (number_bytes (length k)) k, length-take-le size (drop start img) (omega (arith, length-drop start img, i)), e)
 
+named : {img : List ℕ} {p m : ℕ} {k : Part} {o : Result (Part × ℕ) Fault} → ReadsPart img (text-read 1 255) p o → o ≡ Ok (k, m)
+    → Reads img name.read p (Ok (part img k.start k.length, m))
+named t d = let g = rw d at t in record { same = g.same; within = omega (arith, g.within.0, g.within.1) }
+
 module _ {img : List ℕ} {u : Under} {n p : ℕ} {o : Result (Part × ℕ) Fault} (h : n ≡ 0 → ⊥) (t : ReadsPart img (text-read 1 255) p o) where
-  pub row-unnamed : {f : Fault} {r : Result Head Fault} → o ≡ Err f → r ≡ Err f → FirstRow img u n p r
-  row-unnamed d e = let g = rw d at t in rw e (record { row = tt; none = rw (rows-first img u n p h, g.same) })
+  pub row-unnamed : {f : Fault} {r : Result Head Fault} → o ≡ Err f → r ≡ Err f → HeadOf img u n p (result_ok r)
+  row-unnamed d e = let g = rw d at t in rw e (record { are = rw (rows-first img u n p h, g.same); inside = tt })
 
-  module _ {k : Part} {m : ℕ} (d : o ≡ Ok (k, m)) {w : Result (Choice × ℕ) Fault} (v : Chooses img u m w) where
-    named : Reads img name.read p (Ok (part img k.start k.length, m))
-    named = let g = rw d at t in record { same = g.same; within = omega (arith, g.within.0, g.within.1) }
+  module _ {k : Part} {m : ℕ} (d : o ≡ Ok (k, m)) {w : Result (Option GivenParts × ℕ) Fault} (v : Reads img (chosen_read u) m (meant (given_if img) w)) where
+    pub row-unread : {f : Fault} {r : Result Head Fault} → w ≡ Err f → r ≡ Err f → HeadOf img u n p (result_ok r)
+    row-unread x e = rw e (record { are = rw (rows-first img u n p h, row-stop img u p k.start k.length (named t d) (rw x at v)); inside = tt })
 
-    pub row-unread : {f : Fault} {r : Result Head Fault} → w ≡ Err f → r ≡ Err f → FirstRow img u n p r
-    row-unread {f} x e = let y = rw x at v in rw e (record { row = tt; none = rw (rows-first img u n p h, row-stop img u p k.start k.length named y.reads) })
-
-    pub row-there : {c : Choice} {q : ℕ} → w ≡ Ok (c, q)
-        → FirstRow img u n p (Ok (record { more = true; start = k.start; «length» = k.length; given = c.given; inode = c.inode; value = c.value; next = q }))
-    row-there {c} {q} x =
-        let g = rw d at t in
-        let d = (rw x at v).reads in
+    pub row-there : {g : Option GivenParts} {q : ℕ} → w ≡ Ok (g, q) → HeadOf img u n p (Some (record { name = k; given = g; next = q }))
+    row-there {g} {q} x =
+        let i = (rw d at t).within in
+        let t = named t d in
+        let v = rw x at v in
         let b = part img k.start k.length in
-        let r = row_read img u p k.start k.length (choice_meant img c) q named d in
+        let r = row_read img u p k.start k.length (given_if img g) q t v in
         let w = name.write b ++ (under u).write r.0 in
         let long : 1 ≤ length w = simp length-append (omega (arith, number-one (length b))) in
-        let z : q ≡ p + length w = read-on img (name then under u) (then-one name (under u) name-one (under-one u)) (b, r.0) p q long d.within r.2 in
-        let y = name-start img u p k.start k.length g.within.0 g.within.1 named in
-        record { row = record { are = rw (rows-first img u n p h, r.2, r.1, ← y, ← z); inside = record { ends = g.within.0 } }; none = tt }
-
--- no row, if none is read
-pub head-first : {img : List ℕ} {u : Under} {n p : ℕ} {o : Result Head Fault} {d r : Head} → FirstRow img u n p o → r ≡ result_unwrap_or o d → NoRow d → HeadOf img u n p r
-head-first {img} {u} {n} {p} {o} {d} t e z = rw e (go o t)
-  where
-    go : (o : Result Head Fault) → FirstRow img u n p o → HeadOf img u n p (result_unwrap_or o d)
-    go (Ok h) t = t.row
-    go (Err f) t = record { are = rw (t.none, z.none_there); inside = no-row-inside z }
+        let z : q ≡ p + length w = read-on img (name then under u) (then-one name (under u) name-one (under-one u)) (b, r.0) p q long v.within r.2 in
+        let y = name-start img u p k.start k.length i.0 i.1 t in
+        record { are = rw (rows-first img u n p h, r.2, r.1, ← y, ← z); inside = i.0 }
 
 -- ---- a list, its count first
 
 module _ {img : List ℕ} {u : Under} {p : ℕ} {o : Result (ℕ × ℕ) Fault} (h : Reads img (number_read last_count) p o) where
-  pub list-stop : {s : Source} {f : Fault} → o ≡ Err f → Ended s → ListOf img u p s
+  list-stop : {f : Fault} → o ≡ Err f → ListOf img u p (record { at = 0; left = 0; what = u })
   unfolding rows_from
-  list-stop e d = let z = (rw e at h).same in record { are = rw (z, d.none_left) }
+  list-stop e = let z = (rw e at h).same in record { are = rw z }
 
-  pub list-rows : {n q : ℕ} → o ≡ Ok (n, q) → ListOf img u p (record { at = q; left = n; what = u })
+  list-rows : {n q : ℕ} → o ≡ Ok (n, q) → ListOf img u p (record { at = q; left = n; what = u })
   list-rows {n} {q} e =
       let g = rw e at h in
       let z : q ≡ p + length (number_bytes n) = read-on img (number_to last_count refl) (number_to-one last_count refl) n p q (number-one n) g.within g.same in
       record { are = rw (g.same, z) }
 
-pub ruleset lists = (list-stop, list-rows)
+  pub list-read : {x : ℕ × ℕ} → x ≡ result_unwrap_or o (0, 0) → ListOf img u p (record { at = x.1; left = x.0; what = u })
+  list-read e = rw e (go o refl)
+    where
+      go : (r : Result (ℕ × ℕ) Fault) → o ≡ r → ListOf img u p (record { at = (result_unwrap_or r (0, 0)).1; left = (result_unwrap_or r (0, 0)).0; what = u })
+      go (Ok x) d = list-rows d
+      go (Err f) d = list-stop d

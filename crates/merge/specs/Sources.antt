@@ -1,12 +1,10 @@
 -- Lists by name as sources of a listing. Document 01: "From the bottom: tombstone clears, a directory delta removes then adds, other kinds
 -- do nothing." So the topmost list that has a name decides it: the name is given, with its start and an inode or a value, or removed.
-use Rattle.std.specs.Prelude.{◌≡◌, Bool, true, false, List, [], ◌∷◌, ◌++◌, ℕ, zero, suc, ◌+◌, ◌-◌, ◌≤◌, length, drop, Result, IfOk, IfErr, None, Option, Some}
+use Rattle.std.specs.Prelude.{◌≡◌, List, [], ◌∷◌, ◌++◌, ℕ, zero, suc, ◌+◌, ◌-◌, ◌≤◌, length, drop, IfSome, None, Option, Some}
 use Rattle.wire.specs.Parse.{Parsed, fault, got, bind}
 use Rattle.wire.specs.Combinators.{◌then◌}
 use Rattle.wire.specs.Number.{number_bytes, number_read}
 use Rattle.wire.specs.Lists.{last_count}
-use Rattle.wire.specs.Reading.{part, Reads, meant}
-use Rattle.wire.specs.declared.fault.Fault.{Fault}
 use Rattle.image.specs.Meaning.{Text}
 use Rattle.image.specs.FieldLayout.{name}
 use Rattle.image.specs.Under.{UnderName, under}
@@ -15,8 +13,8 @@ use Rattle.image.specs.declared.name.Under.TheVariants as U
 use Rattle.nodes.specs.Options.{text_at}
 use Rattle.rules.specs.Changes.{map_if}
 use Rattle.merge.specs.declared.source.Source.{Source}
+use Rattle.merge.specs.declared.source.Given.{Given as GivenParts}
 use Rattle.merge.specs.declared.source.Head.{Head}
-use Rattle.merge.specs.declared.source.Choice.{Choice}
 
 -- what a name is given: an inode; a value
 abbrev pub Given : Type 0
@@ -35,10 +33,6 @@ choice U.Change v = map_if (λ t. (0, t)) v
 
 abbrev pub decided : (u : Under) → ℕ × UnderName u → Option (ℕ × Given)
 decided u x = map_if (λ g. (x.0, g)) (choice u x.1)
-
-abbrev pub chosen : Bool → Given → Option Given
-chosen true g = Some g
-chosen false g = None
 
 abbrev pub chosen_read : Under → List ℕ → Parsed (Option Given)
 chosen_read u s = bind ((under u).read s) (λ v r. got (choice u v) r)
@@ -63,42 +57,33 @@ list_rows img u p = rows_if (number_read last_count (drop p img)) (λ n. rows_fr
 abbrev pub source_rows : List ℕ → Source → List Decided
 source_rows img s = rows_from img s.what s.left s.at
 
+-- ---- what is read of a source
+
+abbrev pub given_of : List ℕ → GivenParts → Given
+given_of img g = (g.inode, text_at img g.value)
+
+abbrev pub given_if : List ℕ → Option GivenParts → Option Given
+given_if img o = map_if (given_of img) o
+
 -- the row that stands first
 abbrev pub row_at : List ℕ → Head → Decided
-row_at img h = (part img h.start h.length, map_if (λ g. (h.start, g)) (chosen h.given (h.inode, text_at img h.value)))
+row_at img h = (text_at img h.name, map_if (λ g. (h.name.start, g)) (given_if img h.given))
 
-abbrev pub rows_if_more : {A : Type 0} → Bool → A → List A → List A
-rows_if_more true r l = r ∷ l
-rows_if_more false r l = []
+-- it, if there is one, and the rows after it
+abbrev pub head_rows : List ℕ → Under → ℕ → Option Head → List Decided
+head_rows img u n (Some h) = row_at img h ∷ rows_from img u n h.next
+head_rows img u n None = []
+
+-- the name is in the image
+abbrev pub Inside : List ℕ → Head → Type 0
+Inside img h = h.name.start + h.name.length ≤ length img
 
 -- ---- what the readers of a source promise
 
-abbrev pub choice_meant : List ℕ → Choice → Option Given
-choice_meant img c = chosen c.given (c.inode, text_at img c.value)
-
-pub record Chooses (img : List ℕ) (u : Under) (at : ℕ) (r : Result (Choice × ℕ) Fault) : Type 0 where
-  pub reads : Reads img (chosen_read u) at (meant (choice_meant img) r)
-
-pub record Ended (s : Source) : Type 0 where
-  pub none_left : s.left ≡ 0
-
-pub record NoRow (h : Head) : Type 0 where
-  pub none_there : h.more ≡ false
-  pub no_name : h.start + h.length ≡ 0
-
--- the name is in the image
-pub record Inside (img : List ℕ) (h : Head) : Type 0 where
-  pub ends : h.start + h.length ≤ length img
-
 -- the first of the n rows from p on, and those that follow
-pub record HeadOf (img : List ℕ) (u : Under) (n p : ℕ) (h : Head) : Type 0 where
-  pub are : rows_from img u n p ≡ rows_if_more h.more (row_at img h) (rows_from img u (n - 1) h.next)
-  pub inside : Inside img h
-
--- the same, where it is read; where it isn't, there are none
-pub record FirstRow (img : List ℕ) (u : Under) (n p : ℕ) (r : Result Head Fault) : Type 0 where
-  pub row : IfOk r (HeadOf img u n p)
-  pub none : IfErr r (λ f. rows_from img u n p ≡ [])
+pub record HeadOf (img : List ℕ) (u : Under) (n p : ℕ) (h : Option Head) : Type 0 where
+  pub are : rows_from img u n p ≡ head_rows img u (n - 1) h
+  pub inside : IfSome h (Inside img)
 
 pub record ListOf (img : List ℕ) (u : Under) (p : ℕ) (s : Source) : Type 0 where
   pub are : source_rows img s ≡ list_rows img u p

@@ -2,5 +2,5 @@
 #![tactic(auto)]
 
 pub mod merge;
-pub mod slots;
 pub mod source;
+pub mod sources;

@@ -1,23 +1,16 @@
 // The merge of sources: the least name goes first, as the topmost source that has it says, and then the rest.
-ghost use Rattle.std.specs.Prelude.{◌+◌, ◌≤◌, ◌<◌, length, ◌≡◌};
-ghost use Rattle.merge.specs.Merges.{Whole, NoSources, how_many, PushesOne, PushesLists, lists_if, rows_in, sources, Upper, Least, Passed, PassedAll, Ready, decided_rows, Gives, Settles, count_of};
+ghost use Rattle.std.specs.Prelude.{◌+◌, ◌≤◌, ◌≡◌, [], ◌∷◌, length};
+ghost use Rattle.merge.specs.Merges.{in_order, Pushes, lists_if, rows_in, listed, Upper, Least, Passed, PassedAll};
+ghost use Rattle.merge.specs.Merges.{Ready, decided_rows, Gives, Settles, count_of};
 
-use crate::slots::{set_source, source_of};
-use crate::source::{Head, Source, head_of, no_head, source_at};
+use crate::source::{Given, Head, Source, head_of, source_at};
+use crate::sources::Sources;
 use image::name::Under;
 use std::cmp::Ordering;
 use wire::order::compare_part;
-use wire::part::part;
-use wire::text::Part;
+use wire::part::Part;
 
-// The sources of a listing, `count` of them, the topmost first: at most two lists of each record, and one of the base. Three numbers of each.
-#[derive(Clone, Copy)]
-pub struct Sources {
-    pub rows: [u64; 105],
-    pub count: usize,
-}
-
-// The lists of a record or of a node, the upper first.
+// The lists of a record or of a node, the upper first. No `Vec`: the project has no heap.
 #[derive(Clone, Copy)]
 pub enum AtMostTwo {
     None,
@@ -25,46 +18,54 @@ pub enum AtMostTwo {
     Two { over: Source, under: Source },
 }
 
-// The first name that is given, with its start, inode and value, and the sources past it; or that no more is given.
+// A name that is given.
+#[derive(Clone, Copy)]
+pub struct Row {
+    pub name: Part,
+    pub given: Given,
+}
+
+// The first name that is given, if there is one, and the sources past it.
 #[derive(Clone, Copy)]
 pub struct Merge {
     pub all: Sources,
-    pub more: bool,
-    pub start: usize,
-    pub length: usize,
-    pub inode: u64,
-    pub value: Part,
+    pub first: Option<Row>,
 }
 
 pub fn no_sources() -> Sources
-    ensures { NoSources result }
+    ensures { result.count ≡ 0 }
 {
+    let ended = Source {
+        at: 0,
+        left: 0,
+        what: Under::Nothing,
+    };
     Sources {
-        rows: [0; 105],
+        rows: [ended; 35],
         count: 0,
     }
 }
 
-// One source more, beneath the others. Answers how many they are.
-fn push_source(rows: &mut [u64; 105], count: usize, source: Source) -> usize
-    requires { (count < 35) × (length rows.old ≡ 105) }
-    ensures { PushesOne rows.old count source result rows.new }
+// One source more, beneath the others.
+fn push_source(all: &mut Sources, source: Source)
+    requires { all.old.count + 1 ≤ 35 }
+    ensures { Pushes all.old (source ∷ []) all.new }
 {
-    set_source(rows, count, source);
-    count + 1
+    all.rows[all.count] = source;
+    all.count += 1;
 }
 
-// Lists more, beneath the others. Answers how many there are.
-pub fn push_lists(rows: &mut [u64; 105], count: usize, lists: AtMostTwo) -> usize
-    requires { (count + how_many lists ≤ 35) × (length rows.old ≡ 105) }
-    ensures { PushesLists rows.old count lists result rows.new }
+// Lists more, beneath the others.
+pub fn push_lists(all: &mut Sources, lists: AtMostTwo)
+    requires { all.old.count + length (in_order lists) ≤ 35 }
+    ensures { Pushes all.old (in_order lists) all.new }
 {
     match lists {
-        AtMostTwo::None => count,
-        AtMostTwo::One(source) => push_source(rows, count, source),
+        AtMostTwo::None => {}
+        AtMostTwo::One(source) => push_source(all, source),
         AtMostTwo::Two { over, under } => {
-            let next = push_source(rows, count, over);
-            push_source(rows, next, under)
+            push_source(all, over);
+            push_source(all, under);
         }
     }
 }
@@ -80,122 +81,102 @@ pub fn list_if(img: &[u8], option: Option<Part>, what: Under) -> AtMostTwo
 }
 
 // Of two rows the one whose name is less; of equal names the upper.
-fn upper(img: &[u8], over: Head, under: Head) -> Head
+fn upper(img: &[u8], over: Option<Head>, under: Option<Head>) -> Option<Head>
     ensures { Upper img.now over under result }
 {
-    if over.more {
-        if under.more {
-            return match compare_part(
-                img,
-                over.start,
-                over.length,
-                part(img, under.start, under.length),
-            ) {
-                Ordering::Less => over,
-                Ordering::Equal => over,
-                Ordering::Greater => under,
-            };
-        }
+    let Some(first) = over else {
+        return under;
+    };
+    let Some(second) = under else {
         return over;
+    };
+    match compare_part(img, first.name, second.name.of(img)) {
+        Ordering::Less => over,
+        Ordering::Equal => over,
+        Ordering::Greater => under,
     }
-    under
 }
 
 // The least name that stands first, as the topmost of the sources that have it says.
-fn least(img: &[u8], rows: &[u64; 105], count: usize) -> Head
-    requires { Whole (sources rows.now count) }
-    ensures { Least img.now (sources rows.now count) result }
+fn least(img: &[u8], sources: &[Source]) -> Option<Head>
+    ensures { Least img.now sources.now result }
 {
-    let mut best = no_head();
-    for i in (0..count).rev() {
-        best = upper(img, head_of(img, source_of(rows, i)), best);
+    let mut best = None;
+    for i in (0..sources.len()).rev() {
+        best = upper(img, head_of(img, sources[i]), best);
     }
     best
 }
 
 // The source past the name, if it is at it.
-fn passed(img: &[u8], source: Source, start: usize, length: usize) -> Source
-    ensures { Passed img.now source start length result }
+fn passed(img: &[u8], source: Source, name: Part) -> Source
+    ensures { Passed img.now source name result }
 {
-    let head = head_of(img, source);
-    let what = source.what;
-    if head.more {
-        return match compare_part(img, start, length, part(img, head.start, head.length)) {
-            Ordering::Less => source,
-            Ordering::Equal => Source {
-                at: head.next,
-                left: source.left - 1,
-                what,
-            },
-            Ordering::Greater => source,
-        };
+    let Some(head) = head_of(img, source) else {
+        return source;
+    };
+    match compare_part(img, name, head.name.of(img)) {
+        Ordering::Less => source,
+        Ordering::Equal => Source {
+            at: head.next,
+            left: source.left - 1,
+            what: source.what,
+        },
+        Ordering::Greater => source,
     }
-    source
 }
 
 // Moves each source past the name, if it is at it.
-fn pass_all(img: &[u8], rows: &mut [u64; 105], count: usize, start: usize, length: usize)
-    requires { Whole (sources rows.old count) }
-    ensures { PassedAll img.now (sources rows.old count) start length (sources rows.new count) }
+fn pass_all(img: &[u8], sources: &mut [Source], name: Part)
+    ensures { PassedAll img.now sources.old name sources.new }
 {
-    for i in 0..count {
-        let source = source_of(rows, i);
-        set_source(rows, i, passed(img, source, start, length));
+    for source in sources.iter_mut() {
+        *source = passed(img, *source, name);
     }
 }
 
 // The first name that is given, if there is one; the sources are moved past it.
-pub fn next_given(img: &[u8], rows: &mut [u64; 105], count: usize) -> Head
-    requires { Ready img.now (sources rows.old count) }
-    ensures { Gives img.now (sources rows.old count) result (sources rows.new count) }
+pub fn next_given(img: &[u8], sources: &mut [Source]) -> Option<Row>
+    requires { Ready img.now sources.old }
+    ensures { Gives img.now sources.old result sources.new }
 {
-    loop {
-        let best = least(img, rows, count);
-        if best.more {
-            pass_all(img, rows, count, best.start, best.length);
-            if best.given {
-                return best;
-            }
-        } else {
-            return best;
+    while let Some(head) = least(img, sources) {
+        pass_all(img, sources, head.name);
+        if let Some(given) = head.given {
+            let name = head.name;
+            return Some(Row { name, given });
         }
     }
+    None
 }
 
 // The same by value.
 pub fn settle(img: &[u8], all: Sources) -> Merge
-    requires { Ready img.now all }
+    requires { Ready img.now (listed all) }
     ensures { Settles img.now all result }
 {
     let mut rows = all.rows;
     let count = all.count;
-    let head = next_given(img, &mut rows, count);
-    let value = head.value;
+    let first = next_given(img, &mut rows[..count]);
     Merge {
         all: Sources { rows, count },
-        more: head.more,
-        start: head.start,
-        length: head.length,
-        inode: head.inode,
-        value,
+        first,
     }
 }
 
 // How many rows there are; none, if they are more than `room`.
 pub fn count_rows(img: &[u8], all: Sources, room: usize) -> Option<usize>
-    requires { Ready img.now all }
-    ensures { result ≡ count_of (length (decided_rows img.now all)) room }
+    requires { Ready img.now (listed all) }
+    ensures { result ≡ count_of (length (decided_rows img.now (listed all))) room }
 {
     let mut rows = all.rows;
-    let sources = all.count;
-    let mut head = next_given(img, &mut rows, sources);
+    let sources = &mut rows[..all.count];
     let mut count: usize = 0;
-    while head.more {
+    while let Some(_) = next_given(img, sources) {
         if room <= count {
             return None;
         }
         count += 1;
-        head = next_given(img, &mut rows, sources);
     }
     Some(count)
 }

@@ -1,14 +1,16 @@
 // Sources of a listing: lists by name in the image, each at one of its rows.
-ghost use Rattle.std.specs.Prelude.{◌≡◌, false, ◌≤◌, length};
-ghost use Rattle.image.specs.declared.name.Under.TheVariants as U;
-ghost use Rattle.merge.specs.Sources.{Chooses, Ended, NoRow, FirstRow, HeadOf, ListOf};
+ghost use Rattle.std.specs.Prelude.{◌≡◌, ◌≤◌, length};
+ghost use Rattle.std.specs.Result.{result_ok};
+ghost use Rattle.wire.specs.Reading.{Reads, meant};
+ghost use Rattle.merge.specs.Sources.{chosen_read, given_if, HeadOf, ListOf};
 
-use image::field::LAST_WORD;
+use image::field::{Inode, LAST_WORD, XattrValue};
 use image::name::Under;
-use nodes::option::read_maybe_text;
+use nodes::field::{ReadField, read_maybe};
 use wire::fault::Fault;
 use wire::number::read_number;
-use wire::text::{Part, read_text};
+use wire::part::Part;
+use wire::text::read_text;
 
 // A list by name, of which `left` rows stand from `at` on.
 #[derive(Clone, Copy)]
@@ -18,89 +20,19 @@ pub struct Source {
     pub what: Under,
 }
 
-// The first row of a source, if there is one: it gives its name an inode or a value, or removes it. The rows after it are at `next`.
+// What a name is given: an entry its inode, an attribute its value. The other is 0, or an empty text.
+#[derive(Clone, Copy)]
+pub struct Given {
+    pub inode: u64,
+    pub value: Part,
+}
+
+// The first row of a source: its name, and what the name is given, unless it is removed. The rows after it are at `next`.
 #[derive(Clone, Copy)]
 pub struct Head {
-    pub more: bool,
-    pub start: usize,
-    pub length: usize,
-    pub given: bool,
-    pub inode: u64,
-    pub value: Part,
+    pub name: Part,
+    pub given: Option<Given>,
     pub next: usize,
-}
-
-// What stands under a name: whether the name is given, with which inode, and with which value; where there is none, 0 and an empty text.
-#[derive(Clone, Copy)]
-pub struct Choice {
-    pub given: bool,
-    pub inode: u64,
-    pub value: Part,
-}
-
-// An entry's inode.
-#[tactic(auto, using(crate::proofs::Sourced::choices))]
-fn read_inode(img: &[u8], at: usize) -> Result<(Choice, usize), Fault>
-    ensures { Chooses img.now U.Inode at result }
-{
-    let (inode, next) = read_number(img, at, u64::MAX)?;
-    let choice = Choice {
-        given: true,
-        inode,
-        value: no_value(),
-    };
-    Ok((choice, next))
-}
-
-// An attribute's value.
-#[tactic(auto, using(crate::proofs::Sourced::choices))]
-fn read_value(img: &[u8], at: usize) -> Result<(Choice, usize), Fault>
-    ensures { Chooses img.now U.Value at result }
-{
-    let (value, next) = read_text(img, at, 0, 4096)?;
-    let choice = Choice {
-        given: true,
-        inode: 0,
-        value,
-    };
-    Ok((choice, next))
-}
-
-// The change of an attribute: a value, or that it is removed.
-#[tactic(auto, using(crate::proofs::Sourced::choices))]
-fn read_change(img: &[u8], at: usize) -> Result<(Choice, usize), Fault>
-    ensures { Chooses img.now U.Change at result }
-{
-    let (change, next) = read_maybe_text(img, at, 4096)?;
-    let choice = Choice {
-        given: change.is_some(),
-        inode: 0,
-        value: change.unwrap_or(no_value()),
-    };
-    Ok((choice, next))
-}
-
-// What stands under a name, and the place after it.
-fn read_choice(img: &[u8], at: usize, what: Under) -> Result<(Choice, usize), Fault>
-    requires { at ≤ length img.now }
-    ensures { Chooses img.now what at result }
-{
-    match what {
-        Under::Nothing => Ok((no_choice(), at)),
-        Under::Inode => read_inode(img, at),
-        Under::Value => read_value(img, at),
-        Under::Change => read_change(img, at),
-    }
-}
-
-fn no_choice() -> Choice
-    ensures { result.given ≡ false }
-{
-    Choice {
-        given: false,
-        inode: 0,
-        value: no_value(),
-    }
 }
 
 // An empty text.
@@ -113,72 +45,60 @@ pub fn no_value() -> Part
     }
 }
 
-// A source with no rows left.
-pub fn no_source() -> Source
-    ensures { Ended result }
+// What stands under a name: what the name is given, unless it is removed; and the place after it. A `match`, as in `pass_under`.
+fn read_given(img: &[u8], at: usize, what: Under) -> Result<(Option<Given>, usize), Fault>
+    requires { at ≤ length img.now }
+    ensures { Reads img.now (chosen_read what) at (meant (given_if img.now) result) }
 {
-    Source {
-        at: 0,
-        left: 0,
-        what: Under::Nothing,
+    match what {
+        Under::Nothing => Ok((None, at)),
+        Under::Inode => {
+            let (inode, next) = Inode::read(img, at)?;
+            let value = no_value();
+            Ok((Some(Given { inode, value }), next))
+        }
+        Under::Value => {
+            let (value, next) = XattrValue::read(img, at)?;
+            Ok((Some(Given { inode: 0, value }), next))
+        }
+        Under::Change => {
+            let (change, next) = read_maybe::<XattrValue>(img, at)?;
+            let Some(value) = change else {
+                return Ok((None, next));
+            };
+            Ok((Some(Given { inode: 0, value }), next))
+        }
     }
 }
 
-pub fn no_head() -> Head
-    ensures { NoRow result }
-{
-    Head {
-        more: false,
-        start: 0,
-        length: 0,
-        given: false,
-        inode: 0,
-        value: no_value(),
-        next: 0,
-    }
-}
-
-// The first row of a source.
-pub fn head_of(img: &[u8], source: Source) -> Head
+// The first row of a source, if there is one.
+pub fn head_of(img: &[u8], source: Source) -> Option<Head>
     ensures { HeadOf img.now source.what source.left source.at result }
 {
     if source.left == 0 {
-        return no_head();
+        return None;
     }
-    first_row(img, source).unwrap_or(no_head())
+    first_row(img, source).ok()
 }
 
 // The first row of a source that has one left.
 fn first_row(img: &[u8], source: Source) -> Result<Head, Fault>
     requires { source.left ≡ 0 → ⊥ }
-    ensures { FirstRow img.now source.what source.left source.at result }
+    ensures { HeadOf img.now source.what source.left source.at (result_ok result) }
 {
-    let what = source.what;
     let (name, named) = read_text(img, source.at, 1, 255)?;
-    let (choice, next) = read_choice(img, named, what)?;
-    let value = choice.value;
-    Ok(Head {
-        more: true,
-        start: name.start,
-        length: name.length,
-        given: choice.given,
-        inode: choice.inode,
-        value,
-        next,
-    })
+    let (given, next) = read_given(img, named, source.what)?;
+    Ok(Head { name, given, next })
 }
 
-// The source of the list at `at`.
-#[tactic(auto, using(crate::proofs::Sourced::lists))]
+// The source of the list at `at`; of one that isn't read, it has no rows.
 pub fn source_at(img: &[u8], at: usize, what: Under) -> Source
     ensures { ListOf img.now what at result }
 {
-    match read_number(img, at, LAST_WORD) {
-        Ok((left, first)) => Source {
-            at: first,
-            left,
-            what,
-        },
-        Err(_) => no_source(),
+    let (left, first) = read_number(img, at, LAST_WORD).unwrap_or((0, 0));
+    Source {
+        at: first,
+        left,
+        what,
     }
 }

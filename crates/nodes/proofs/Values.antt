@@ -7,16 +7,15 @@ use Prim.Native.Nat.{ℕ, ◌/◌, ◌%◌, ◌≤◌}
 use native.Mathlib.Omega.{arith}
 use lib.ListN.{length, drop, length-append, length-drop}
 use Rattle.wire.specs.declared.fault.Fault.{Fault}
-use Rattle.wire.specs.declared.text.Part.{Part}
+use Rattle.wire.specs.declared.part.Part.{Part}
 use Rattle.wire.specs.Parse.{Parsed, got, bind, bind-bind}
 use Rattle.wire.specs.Combinators.{opt-read}
 use Rattle.wire.specs.Number.{number_read, number-one}
 use Rattle.wire.specs.Orders.{by_bytes}
 use Rattle.wire.specs.Maps.{Map}
 use Rattle.wire.specs.Reading.{Reads}
-use Rattle.wire.proofs.Readers.{read-then, read-stop, read-end, number-most, read-in, handed}
+use Rattle.wire.proofs.Readers.{read-then, read-stop, read-end}
 use Rattle.image.specs.declared.name.Under.{Under}
-use Rattle.image.specs.declared.name.Under.TheVariants.{Change}
 use Rattle.image.specs.Under.{UnderName}
 use Rattle.image.specs.Meaning.{Fields}
 use Rattle.image.specs.Masks.{flag}
@@ -25,30 +24,40 @@ use Rattle.image.specs.RecordLayout.{later_flags, flags, fields, fields_of}
 use Rattle.image.specs.Places.{Ends, maybe_read}
 use Rattle.image.proofs.Passing.{ends-got, ends-fault}
 use Rattle.nodes.specs.declared.attr.Words.{Words}
-use Rattle.nodes.specs.Attrs.{ReadsChanges, later_read}
+use Rattle.nodes.specs.Attrs.{later_read}
+use Rattle.nodes.specs.Fields.{holds_if, ReadsAs}
+use Rattle.std.specs.Option.{option_map}
+use Rattle.std.proofs.lemmas.Iterator.Adapters.{option_map_id}
 use Rattle.nodes.specs.Listed.{list_at, by_name, ReadsNames, part_from}
 use Rattle.nodes.proofs.OneForm.{by_name-one}
 
 -- a field that is there, or not
-module _ {A : Type 0} (p : List ℕ → Parsed A) {img : List ℕ} {bit at : ℕ} where
-  pub reads_none : bit ≡ 0 → at ≤ length img → Reads img (opt-read p bit) at (Ok (None, at))
+module _ {V M : Type 0} {img : List ℕ} (p : List ℕ → Parsed M) {says : V → M} {Holds : V → ℕ → Type 0} {at bit : ℕ} where
+  pub field-none : bit ≡ 0 → at ≤ length img → ReadsAs img (opt-read p bit) (option_map says) (holds_if Holds) at (Ok (None, at))
   unfolding opt-read
-  reads_none e w = rw e (read-end w)
+  field-none e w = rw e (record { reads = read-end w; holds = tt })
 
-  pub reads-some : {o : Result (A × ℕ) Fault} {a : A} {m : ℕ} → (bit ≡ 0 → ⊥) → bit ≤ 1 → Reads img p at o → o ≡ Ok (a, m) → Reads img (opt-read p bit) at (Ok (Some a, m))
-  unfolding opt-read
-  reads-some n l h d = let e : bit ≡ 1 = omega arith in let g = rw d at h in rw e (read-then _ g (read-end g.within))
+  module _ {o : Result (V × ℕ) Fault} (n : bit ≡ 0 → ⊥) (l : bit ≤ 1) (h : ReadsAs img p says Holds at o) where
+    pub field-some : {a : V} {m : ℕ} → o ≡ Ok (a, m) → ReadsAs img (opt-read p bit) (option_map says) (holds_if Holds) at (Ok (Some a, m))
+    unfolding opt-read
+    field-some d =
+        let e : bit ≡ 1 = omega arith in
+        let g = rw d at h in
+        rw e (record { reads = read-then _ g.reads (read-end g.reads.within); holds = g.holds })
 
-  pub some-stops : {o : Result (A × ℕ) Fault} {f : Fault} → (bit ≡ 0 → ⊥) → bit ≤ 1 → Reads img p at o → o ≡ Err f → Reads img (opt-read p bit) at (Err f)
-  unfolding opt-read
-  some-stops n l h d = let e : bit ≡ 1 = omega arith in rw e (read-stop _ (rw d at h))
+    pub field-stop : {f : Fault} {r : Result (Option V × ℕ) Fault} → o ≡ Err f → r ≡ Err f → ReadsAs img (opt-read p bit) (option_map says) (holds_if Holds) at r
+    unfolding opt-read
+    field-stop d k = let e : bit ≡ 1 = omega arith in let g = rw d at h in rw (e, k) (record { reads = read-stop _ g.reads; holds = tt })
 
-  -- after its bit
-  pub reads-maybe : {o : Result (ℕ × ℕ) Fault} {m : ℕ} {r : Result (Option A × ℕ) Fault} → Reads img (number_read 1) at o → o ≡ Ok (bit, m) → Reads img (opt-read p bit) m r
-      → Reads img (maybe_read p) at r
-  reads-maybe h d g = read-then (λ b r. opt-read p b r) (rw d at h) g
+-- after its bit
+module _ {V M : Type 0} {img : List ℕ} (p : List ℕ → Parsed M) {says : V → M} {Holds : V → ℕ → Type 0} {at : ℕ}
+    {o : Result (ℕ × ℕ) Fault} (h : Reads img (number_read 1) at o) where
+  pub maybe-stop : {f : Fault} {r : Result (Option V × ℕ) Fault} → o ≡ Err f → r ≡ Err f → ReadsAs img (maybe_read p) (option_map says) (holds_if Holds) at r
+  maybe-stop d k = rw k (record { reads = read-stop _ (rw d at h); holds = tt })
 
-pub ruleset options = (reads_none, reads-some, some-stops, reads-maybe, number-most, read-in, handed)
+  pub maybe-field : {bit m : ℕ} {r : Result (Option V × ℕ) Fault} → o ≡ Ok (bit, m) → ReadsAs img (opt-read p bit) (option_map says) (holds_if Holds) m r
+      → ReadsAs img (maybe_read p) (option_map says) (holds_if Holds) at r
+  maybe-field d g = record { reads = read-then (λ b r. opt-read p b r) (rw d at h) g.reads; holds = g.holds }
 
 -- ---- fields one after the other
 
@@ -110,32 +119,24 @@ module _ {img : List ℕ} (u : Under) {n : ℕ} where
     pub names-stop : {r : Result (Part × ℕ) Fault} {f : Fault} → o ≡ Err f → r ≡ Err f → ReadsNames img u n r
     names-stop d e = rw e (record { reads = record { same = ends-fault (rw d at h); within = tt }; listed = tt; place = tt })
 
--- ---- attribute changes
-
-module _ {img : List ℕ} {at bit : ℕ} where
-  pub no-changes : bit ≡ 0 → at ≤ length img → ReadsChanges img at bit (Ok (None, at))
-  no-changes e w = record { reads = reads_none _ e w; listed = tt }
-
-  module _ {o : Result (Part × ℕ) Fault} (n : bit ≡ 0 → ⊥) (l : bit ≤ 1) (h : ReadsNames img Change at o) where
-    pub some-changes : {p : Part} {m : ℕ} → o ≡ Ok (p, m) → ReadsChanges img at bit (Ok (Some p, m))
-    some-changes d = let g = rw d at h in record { reads = reads-some _ n l g.reads refl; listed = g.listed }
-
-    pub changes-stop : {r : Result (Option Part × ℕ) Fault} {f : Fault} → o ≡ Err f → r ≡ Err f → ReadsChanges img at bit r
-    changes-stop d e = let g = rw d at h in rw e (record { reads = some-stops _ n l g.reads refl; listed = tt })
-
-pub ruleset changes_rules = (no-changes, some-changes, changes-stop, handed)
-
 -- ---- the mask and the fields
+
+abbrev itself : Option ℕ → Option ℕ
+itself = option_map (λ n. n)
 
 abbrev bit : ℕ → List ℕ → Parsed (Option ℕ)
 bit b = opt-read (number_read 4294967295) (b % 2)
 
 module _ {img : List ℕ} {m at c0 c1 c2 c3 c4 : ℕ} {r : Result (Fields × ℕ) Fault} where
-  pub reads-fields : (w : Words) → Reads img (number_read 511) at (Ok (m, c0)) → Reads img (bit m) c0 (Ok (w.mode, c1))
-      → Reads img (bit (m / 2)) c1 (Ok (w.uid, c2)) → Reads img (bit (m / 2 / 2)) c2 (Ok (w.gid, c3))
-      → Reads img (bit (m / 2 / 2 / 2)) c3 (Ok (w.nlink, c4)) → Reads img (later_read (m / 2 / 2 / 2 / 2) w) c4 r → Reads img fields.read at r
+  pub reads-fields : (w : Words) → Reads img (number_read 511) at (Ok (m, c0)) → Reads img (bit m) c0 (Ok (itself w.mode, c1))
+      → Reads img (bit (m / 2)) c1 (Ok (itself w.uid, c2)) → Reads img (bit (m / 2 / 2)) c2 (Ok (itself w.gid, c3))
+      → Reads img (bit (m / 2 / 2 / 2)) c3 (Ok (itself w.nlink, c4)) → Reads img (later_read (m / 2 / 2 / 2 / 2) w) c4 r → Reads img fields.read at r
   unfolding fields
-  reads-fields w h x y z n l =
+  reads-fields w h x' y' z' n' l =
+      let x = rw (option_map_id w.mode) at x' in
+      let y = rw (option_map_id w.uid) at y' in
+      let z = rw (option_map_id w.gid) at z' in
+      let n = rw (option_map_id w.nlink) at n' in
       let k1 = flag word later_flags in
       let k2 = flag word k1 in
       let k3 = flag word k2 in

@@ -1,13 +1,12 @@
 -- What the changes of attributes by value mean.
-use Rattle.wire.specs.declared.text.Part.{Part}
+use Rattle.wire.specs.declared.part.Part.{Part}
 use Rattle.std.specs.Prelude.{List, ℕ, Result, IfOk, Option}
 use Rattle.wire.specs.declared.fault.Fault.{Fault}
 use Rattle.wire.specs.Parse.{Parsed, got, bind}
-use Rattle.wire.specs.Combinators.{opt-read}
 use Rattle.wire.specs.Reading.{Reads, meant}
 use Rattle.image.specs.Meaning.{Fields}
 use Rattle.image.specs.declared.name.Under.TheVariants as U
-use Rattle.image.specs.RecordLayout.{changes, later_flags, fields, fields_of}
+use Rattle.image.specs.RecordLayout.{later_flags, fields, fields_of}
 use Rattle.nodes.specs.Listed.{list_of, ListedIf}
 use Rattle.nodes.specs.declared.attr.AttrDelta.{AttrDelta}
 use Rattle.nodes.specs.declared.attr.Words.{Words}
@@ -40,11 +39,6 @@ attr_delta w t x = record {
   created_at = t.created_at;
   xattrs = x;
 }
-
--- attribute changes were read, and end where the reading does
-pub record ReadsChanges (img : List ℕ) (at bit : ℕ) (r : Result (Option Part × ℕ) Fault) : Type 0 where
-  pub reads : Reads img (opt-read changes.read bit) at (meant (list_of img U.Change) r)
-  pub listed : IfOk r (λ x. ListedIf img U.Change x.0 x.1)
 
 -- the upper bits of a mask, after the first four fields
 abbrev pub later_read : ℕ → Words → List ℕ → Parsed Fields

@@ -1,5 +1,5 @@
 -- Lists that stay in the image. Document 01: "`HashMap`, `BTreeMap`, `Vec` become sorted lists in the image."
-use Rattle.std.specs.Prelude.{◌≡◌, refl, List, ℕ, ◌+◌, ◌-◌, ◌≤◌, length, drop, Result, IfOk, None, Option, Some}
+use Rattle.std.specs.Prelude.{◌≡◌, refl, List, ℕ, ◌+◌, ◌-◌, ◌≤◌, length, drop, Result, IfOk, Option}
 use Rattle.wire.specs.declared.fault.Fault.{Fault}
 use Rattle.wire.specs.Parse.{Parsed, fault, got}
 use Rattle.wire.specs.Codec.{Codec}
@@ -10,7 +10,9 @@ use Rattle.wire.specs.Reading.{Reads, meant}
 use Rattle.image.specs.declared.name.Under.{Under}
 use Rattle.image.specs.FieldLayout.{name}
 use Rattle.image.specs.Under.{UnderName, under}
-use Rattle.wire.specs.declared.text.Part.{Part}
+use Rattle.wire.specs.declared.part.Part.{Part}
+use Rattle.std.specs.Option.{option_map}
+use Rattle.nodes.specs.Fields.{holds_if}
 
 abbrev pub read_or : {A : Type 0} → A → Parsed A → A
 read_or z (fault f) = z
@@ -26,8 +28,7 @@ module _ (img : List ℕ) (u : Under) where
   list_at p = read_or (empty by_bytes) ((by_name u).read (drop p.start img))
 
   abbrev pub list_of : Option Part → Option (Map by_bytes (UnderName u))
-  list_of (Some p) = Some (list_at p)
-  list_of None = None
+  list_of = option_map list_at
 
   -- there is a list at the place, and it ends at `end`
   pub record Listed (p : Part) (end : ℕ) : Type 0 where
@@ -36,8 +37,7 @@ module _ (img : List ℕ) (u : Under) where
     pub inside : end ≤ length img
 
   abbrev pub ListedIf : Option Part → ℕ → Type 0
-  ListedIf (Some p) end = Listed p end
-  ListedIf None end = Unit {0}
+  ListedIf = holds_if Listed
 
 -- the part from one place to another
 abbrev pub part_from : ℕ → ℕ → Part

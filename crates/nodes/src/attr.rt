@@ -1,13 +1,13 @@
 // The changes of attributes that a delta carries.
 ghost use Rattle.std.specs.Prelude.{◌≤◌, ◌≡◌, length};
-ghost use Rattle.nodes.specs.Attrs.{attr_delta, ReadsAttr, ReadsLater, ReadsChanges};
+ghost use Rattle.nodes.specs.Attrs.{attr_delta, ReadsAttr, ReadsLater};
 
-use crate::option::{read_time_if, read_u32_if};
-use crate::part::read_names;
-use image::name::Under;
+use crate::field::read_if;
+use image::field::{Moment, Word};
+use image::name::Changes;
 use wire::fault::Fault;
 use wire::number::read_number;
-use wire::text::Part;
+use wire::part::Part;
 use wire::time::Time;
 
 // Each field is there, or not. The attribute changes are a list in the image.
@@ -30,10 +30,10 @@ pub fn read_attr_delta(img: &[u8], at: usize) -> Result<(AttrDelta, usize), Faul
     ensures { ReadsAttr img.now at result }
 {
     let (bits, start) = read_number(img, at, 511)?;
-    let (mode, owner) = read_u32_if(img, start, bits % 2)?;
-    let (uid, group) = read_u32_if(img, owner, bits / 2 % 2)?;
-    let (gid, links) = read_u32_if(img, group, bits / 2 / 2 % 2)?;
-    let (nlink, times) = read_u32_if(img, links, bits / 2 / 2 / 2 % 2)?;
+    let (mode, owner) = read_if::<Word>(img, start, bits % 2)?;
+    let (uid, group) = read_if::<Word>(img, owner, bits / 2 % 2)?;
+    let (gid, links) = read_if::<Word>(img, group, bits / 2 / 2 % 2)?;
+    let (nlink, times) = read_if::<Word>(img, links, bits / 2 / 2 / 2 % 2)?;
     let words = Words {
         mode,
         uid,
@@ -57,17 +57,17 @@ fn read_later(img: &[u8], at: usize, bits: u64, words: Words) -> Result<(AttrDel
     requires { (bits ≤ 31) × (at ≤ length img.now) }
     ensures { ReadsLater img.now at bits words result }
 {
-    let (atime, modified) = read_time_if(img, at, bits % 2)?;
-    let (mtime, changed) = read_time_if(img, modified, bits / 2 % 2)?;
-    let (ctime, created) = read_time_if(img, changed, bits / 2 / 2 % 2)?;
-    let (created_at, attributes) = read_time_if(img, created, bits / 2 / 2 / 2 % 2)?;
+    let (atime, modified) = read_if::<Moment>(img, at, bits % 2)?;
+    let (mtime, changed) = read_if::<Moment>(img, modified, bits / 2 % 2)?;
+    let (ctime, created) = read_if::<Moment>(img, changed, bits / 2 / 2 % 2)?;
+    let (created_at, attributes) = read_if::<Moment>(img, created, bits / 2 / 2 / 2 % 2)?;
     let times = Times {
         atime,
         mtime,
         ctime,
         created_at,
     };
-    let (xattrs, next) = read_changes_if(img, attributes, bits / 2 / 2 / 2 / 2)?;
+    let (xattrs, next) = read_if::<Changes>(img, attributes, bits / 2 / 2 / 2 / 2)?;
     Ok((attr_delta_of(words, times, xattrs), next))
 }
 
@@ -103,17 +103,4 @@ fn attr_delta_of(words: Words, times: Times, xattrs: Option<Part>) -> AttrDelta
         created_at,
         xattrs,
     }
-}
-
-// Attribute changes that are there if the bit is 1, and the place after them.
-#[tactic(auto, using(crate::proofs::Values::changes_rules))]
-fn read_changes_if(img: &[u8], at: usize, bit: u64) -> Result<(Option<Part>, usize), Fault>
-    requires { (bit ≤ 1) × (at ≤ length img.now) }
-    ensures { ReadsChanges img.now at bit result }
-{
-    if bit == 0 {
-        return Ok((None, at));
-    }
-    let (list, next) = read_names(img, at, Under::Change)?;
-    Ok((Some(list), next))
 }

@@ -3,6 +3,6 @@
 #![tactic(auto)]
 
 pub mod attr;
+pub mod field;
 pub mod node;
-pub mod option;
 pub mod part;

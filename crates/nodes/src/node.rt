@@ -1,17 +1,17 @@
 // A node of the base by value.
-ghost use Rattle.std.specs.Prelude.{◌≤◌, length};
-ghost use Rattle.wire.specs.Number.{number_read};
-ghost use Rattle.wire.specs.Reading.{Reads};
-ghost use Rattle.image.specs.Meaning.{directory, file, symlink};
-ghost use Rattle.image.specs.KindLayout.{kind_at};
-ghost use Rattle.nodes.specs.Nodes.{ReadsMeta, ReadsKind, ReadsNode};
+ghost use Rattle.std.specs.Prelude.{◌≤◌, ◌≡◌, ℕ, List, length};
+ghost use Rattle.image.specs.Meaning.{directory, kind_of};
+ghost use Rattle.image.specs.FileTypes.{kind_meant};
+ghost use Rattle.nodes.specs.Nodes.{body_meant, ReadsMeta, ReadsKind, ReadsNode};
 
+use crate::field::ReadField;
 use crate::part::read_names;
-use image::field::{LAST_SIZE, LAST_WORD};
+use image::field::{Size, Target, Word};
+use image::kind::{FileType, read_file_type};
 use image::name::Under;
 use wire::fault::Fault;
 use wire::number::read_number;
-use wire::text::{Part, read_text};
+use wire::part::Part;
 use wire::time::{Time, read_time};
 
 // The extended attributes are a list in the image.
@@ -39,6 +39,23 @@ pub enum NodeKind {
     Socket,
 }
 
+impl NodeKind {
+    // Which of the seven kinds it is.
+    pub fn file_type(self) -> FileType
+        ensures { (img : List ℕ) → kind_meant result ≡ kind_of (body_meant img self) }
+    {
+        match self {
+            NodeKind::Directory { .. } => FileType::Directory,
+            NodeKind::File { .. } => FileType::RegularFile,
+            NodeKind::Symlink { .. } => FileType::Symlink,
+            NodeKind::Fifo => FileType::NamedPipe,
+            NodeKind::CharDevice { .. } => FileType::CharDevice,
+            NodeKind::BlockDevice { .. } => FileType::BlockDevice,
+            NodeKind::Socket => FileType::Socket,
+        }
+    }
+}
+
 #[derive(Clone, Copy)]
 pub struct Node {
     pub meta: InodeMeta,
@@ -50,9 +67,9 @@ pub struct Node {
 pub fn read_node(img: &[u8], at: usize) -> Result<(Node, usize), Fault>
     ensures { ReadsNode img.now at result }
 {
-    let (number, start) = read_number(img, at, 6)?;
+    let (file_type, start) = read_file_type(img, at)?;
     let (meta, middle) = read_meta(img, start)?;
-    let (kind, next) = read_kind(img, middle, number)?;
+    let (kind, next) = read_kind(img, middle, file_type)?;
     Ok((Node { meta, kind }, next))
 }
 
@@ -61,19 +78,19 @@ pub fn read_node(img: &[u8], at: usize) -> Result<(Node, usize), Fault>
 fn read_meta(img: &[u8], at: usize) -> Result<(InodeMeta, usize), Fault>
     ensures { ReadsMeta img.now at result }
 {
-    let (perm, links) = read_number(img, at, LAST_WORD)?;
-    let (nlink, owner) = read_number(img, links, LAST_WORD)?;
-    let (uid, group) = read_number(img, owner, LAST_WORD)?;
-    let (gid, accessed) = read_number(img, group, LAST_WORD)?;
+    let (perm, links) = Word::read(img, at)?;
+    let (nlink, owner) = Word::read(img, links)?;
+    let (uid, group) = Word::read(img, owner)?;
+    let (gid, accessed) = Word::read(img, group)?;
     let (atime, modified) = read_time(img, accessed)?;
     let (mtime, changed) = read_time(img, modified)?;
     let (ctime, attributes) = read_time(img, changed)?;
     let (xattrs, next) = read_names(img, attributes, Under::Value)?;
     let meta = InodeMeta {
-        perm: perm as u32,
-        nlink: nlink as u32,
-        uid: uid as u32,
-        gid: gid as u32,
+        perm,
+        nlink,
+        uid,
+        gid,
         atime,
         mtime,
         ctime,
@@ -83,32 +100,31 @@ fn read_meta(img: &[u8], at: usize) -> Result<(InodeMeta, usize), Fault>
 }
 
 // What a node of this kind has of its own.
-fn read_kind(img: &[u8], at: usize, kind: u64) -> Result<(NodeKind, usize), Fault>
+fn read_kind(img: &[u8], at: usize, kind: FileType) -> Result<(NodeKind, usize), Fault>
     requires { at ≤ length img.now }
-    ensures { ReadsKind img.now (kind_at kind) at result }
+    ensures { ReadsKind img.now (kind_meant kind) at result }
 {
     match kind {
-        0 => read_directory(img, at),
-        1 => read_file(img, at),
-        2 => read_symlink(img, at),
-        3 => Ok((NodeKind::Fifo, at)),
-        4 => {
-            let (rdev, next) = read_device(img, at)?;
+        FileType::Directory => read_directory(img, at),
+        FileType::RegularFile => {
+            let (size, next) = Size::read(img, at)?;
+            Ok((NodeKind::File { size }, next))
+        }
+        FileType::Symlink => {
+            let (target, next) = Target::read(img, at)?;
+            Ok((NodeKind::Symlink { target }, next))
+        }
+        FileType::NamedPipe => Ok((NodeKind::Fifo, at)),
+        FileType::CharDevice => {
+            let (rdev, next) = Word::read(img, at)?;
             Ok((NodeKind::CharDevice { rdev }, next))
         }
-        5 => {
-            let (rdev, next) = read_device(img, at)?;
+        FileType::BlockDevice => {
+            let (rdev, next) = Word::read(img, at)?;
             Ok((NodeKind::BlockDevice { rdev }, next))
         }
-        _ => Ok((NodeKind::Socket, at)),
+        FileType::Socket => Ok((NodeKind::Socket, at)),
     }
-}
-
-fn read_device(img: &[u8], at: usize) -> Result<(u32, usize), Fault>
-    ensures { Reads img.now (number_read 4294967295) at result }
-{
-    let (device, next) = read_number(img, at, LAST_WORD)?;
-    Ok((device as u32, next))
 }
 
 // Parent and entries.
@@ -118,18 +134,4 @@ fn read_directory(img: &[u8], at: usize) -> Result<(NodeKind, usize), Fault>
     let (parent, here) = read_number(img, at, u64::MAX)?;
     let (entries, next) = read_names(img, here, Under::Inode)?;
     Ok((NodeKind::Directory { parent, entries }, next))
-}
-
-fn read_file(img: &[u8], at: usize) -> Result<(NodeKind, usize), Fault>
-    ensures { ReadsKind img.now file at result }
-{
-    let (size, next) = read_number(img, at, LAST_SIZE)?;
-    Ok((NodeKind::File { size }, next))
-}
-
-fn read_symlink(img: &[u8], at: usize) -> Result<(NodeKind, usize), Fault>
-    ensures { ReadsKind img.now symlink at result }
-{
-    let (target, next) = read_text(img, at, 0, 4095)?;
-    Ok((NodeKind::Symlink { target }, next))
 }

@@ -4,7 +4,7 @@ ghost use Rattle.nodes.specs.Listed.{part_from, ReadsNames};
 
 use image::name::{Under, pass_names};
 use wire::fault::Fault;
-use wire::text::Part;
+use wire::part::Part;
 
 // The list by name at `at`, its count included, and the place after it.
 pub fn read_names(img: &[u8], at: usize, what: Under) -> Result<(Part, usize), Fault>

@@ -1,8 +1,8 @@
 -- The image with a layer normalised is that of the store with the layer normalised.
 -- Assumes nothing.
 use Rattle.std.specs.Prelude.{None, Option, Some, Result, Ok, Err}
+use Rattle.std.proofs.Common.{MutBor}
 use mathlib.Core.Path.{◌≡◌, refl, sym, ap, ◌∙◌}
-use mathlib.Core.Bool.{true, false}
 use mathlib.Core.List.{List, [], ◌∷◌, ◌++◌, map, append_assoc, append-nil}
 use Prim.Native.Nat.{ℕ, zero, suc, ◌+◌, ◌-◌, ◌≤◌, ◌<◌}
 use native.Mathlib.Omega.{arith}
@@ -42,13 +42,13 @@ use Rattle.rules.specs.ChangeCalls.{by_rules}
 use Rattle.walk.specs.Walks.{Ready}
 use Rattle.change.specs.Cuts.{rows_bytes}
 use Rattle.change.specs.Sections.{between, Spans, Stands, tail_of}
-use Rattle.change.specs.Changed.{Changes, lacks_room}
+use Rattle.change.specs.Changed.{Changes, Writes}
 use Rattle.survey.specs.declared.refusal.Refusal.{Refusal}
 use Rattle.survey.specs.declared.refusal.Refusal.TheVariants as D
 use Rattle.change.specs.declared.section.Sections.{Sections}
 use Rattle.change.proofs.Batches.{head_of, batch_bytes, queue_bytes, batches-bytes}
 use Rattle.change.proofs.Cutting.{chain-rows}
-use Rattle.change.proofs.Finishing.{finish-roomless, finish-written, changes-refused, changes-made}
+use Rattle.change.proofs.Finishing.{changes-refused, changes-made}
 use Rattle.change.proofs.Sections.{span-part, span-front, span-both, span-reads, value-is, stands-fits, store_bytes}
 use Rattle.change.proofs.Queued.{stands-count}
 use Rattle.walk.specs.Opens.{layer_bytes, layer_at, LayersOf, OpensLayers}
@@ -56,7 +56,7 @@ use Rattle.walk.specs.declared.open.Layers.{Layers}
 use Rattle.walk.proofs.Opening.{count-layers, layer_fits, live-fits, layers-start}
 use Rattle.normalize.specs.Records.{normal_on}
 use Rattle.normalize.specs.Rows.{normal_row, normal_rows, PutsRows}
-use Rattle.normalize.specs.Images.{LayerAt, PutsImage, WritesImage}
+use Rattle.normalize.specs.Images.{normal_bytes, LayerAt, PutsImage}
 use Rattle.normalize.proofs.Recording.{between_is}
 
 -- ---- a layer normalised, row by row
@@ -118,13 +118,6 @@ image-put {img} {w} {o = o} {x} a e p q t v = record {
       let y : x.0 ≡ length l.rows = ap (λ (x : ℕ × ℕ). x.0) (value-is (0, 0) z e) in
       rw (normal-write ls b l, append_assoc) (put-append p (put-append (rw y at q) (put-append (t.puts b ls l h.over) v)));
 }
-
-module _ {img : List ℕ} {w : Layers} {n₁ n₂ : List ℕ} {size : ℕ} (p : PutsImage img w n₁ size n₂) where
-  pub image-roomless : {old : List ℕ} → lacks_room size (length old) ≡ true → WritesImage img w old (Err D.NoRoom) old
-  image-roomless h = record { writes = λ b ls l g. finish-roomless (p.puts b ls l g) h }
-
-  pub image-written : {q : ℕ} {old new : List ℕ} → lacks_room size (length old) ≡ false → PutsImage img w old q new → WritesImage img w old (Ok q) new
-  image-written h k = record { writes = λ b ls l g. finish-written (p.puts b ls l g) h (k.puts b ls l g) }
 
 -- ---- where the layer stands in the image
 
@@ -247,7 +240,11 @@ module _ {img : List ℕ} {p : Sections} {s : Store} (w : Stands img p s) {o : R
           fits = layer_fits s.batches s.live n f.batches.each (live-fits s f) (omega (arith, long));
         }
 
-    pub position-changed : {old new : List ℕ} {x : Result ℕ Refusal} → WritesImage img l old x new → Changes (by_rules usual (Call.normalise n) img (length old)) old x new
-    position-changed v =
+    pub position-changed : {Puts : MutBor (List ℕ) → ℕ → MutBor (List ℕ) → Type 0} {old new : List ℕ} {x : Result ℕ Refusal} → Writes Puts old x new
+        → ((t : MutBor (List ℕ)) (q : ℕ) (u : MutBor (List ℕ)) → Puts t q u → PutsImage img l t.now q u.now)
+        → Changes (by_rules usual (Call.normalise n) img (length old)) old x new
+    position-changed v puts =
+        let under = take n (layers s) in
         changes-made (Call.normalise n) w (rw (le-ltb (length s.batches) n (omega (arith, counted))))
-        (normal-image w (omega (arith, counted)) there.stands (rw add-one at opened.rest)) (v.writes s.base (take n (layers s)) (layer_at s n) there)
+        (normal-image w (omega (arith, counted)) there.stands (rw add-one at opened.rest))
+        (v (normal_bytes img l s.base under (layer_at s n)) (λ t q u h. (puts t q u h).puts s.base under (layer_at s n) there))

@@ -2,7 +2,7 @@
 -- Assumes nothing.
 use Rattle.std.specs.Prelude.{None, Option, Some}
 use mathlib.Core.Path.{◌≡◌, refl, sym, ap, ◌∙◌}
-use mathlib.Core.Bool.{Bool, true, false}
+use mathlib.Core.Bool.{true, false}
 use mathlib.Core.List.{List, [], ◌∷◌, ◌++◌, map}
 use Prim.Native.Nat.{ℕ, zero, suc, ◌≤◌, ◌<◌}
 use native.Mathlib.Omega.{arith}
@@ -18,7 +18,7 @@ use Rattle.wire.proofs.Puts.{put-append, put-length}
 use Rattle.image.specs.Meaning.{Record, Base, Layer}
 use Rattle.image.specs.FieldLayout.{inode}
 use Rattle.image.specs.RecordLayout.{layer_record}
-use Rattle.survey.specs.declared.batch.InodeLayerStack.{InodeLayerStack}
+use Rattle.stack.specs.declared.stack.Stack.{Stack}
 use Rattle.rules.specs.Reads.{is_there}
 use Rattle.rules.specs.Stacks.{stack_on, stack}
 use Rattle.rules.specs.PlacedStacks.{records_on}
@@ -38,16 +38,26 @@ use Rattle.normalize.specs.Rows.{normal_rows, PutsStep, PutsRows}
 
 -- ---- one step
 
-module _ {img : List ℕ} {top : Bool} {ino : ℕ} {s : InodeLayerStack} {old : List ℕ} {at : ℕ} where
-  pub step-topped : {mid new : List ℕ} {q r : ℕ} → top ≡ true → Put old at (inode.write ino) q mid → Put mid q (layer_record.write (normal_pieces (pieces_in img s))) r new
-      → PutsStep img top ino s old at r new
-  step-topped e p q = record { topped = λ t h. put-append p q; passed = λ t. absurd (let z : ◌≡◌ {A = ℕ} 0 1 = cc in omega arith); low = λ h. omega (arith, q.to); same = put-length q ∙ put-length p }
+module _ {t : Step} {old : List ℕ} {at : ℕ} where
+  pub step-topped : {mid new : List ℕ} {q r : ℕ} → t.top ≡ true → Put old at (inode.write t.inode) q mid
+      → Put mid q (layer_record.write (normal_pieces (pieces_in t.stack))) r new → PutsStep t old at r new
+  step-topped e p q = record {
+    topped = λ x h. put-append p q;
+    passed = λ x. absurd (let z : ◌≡◌ {A = ℕ} 0 1 = cc in omega arith);
+    low = λ h. omega (arith, q.to);
+    same = put-length q ∙ put-length p;
+  }
 
-  pub step-bare : s.count ≤ 0 → top ≡ true → PutsStep img top ino s old at at old
-  step-bare h e = record { topped = λ t k. absurd (omega arith); passed = λ t. (refl, refl); low = λ h. h; same = refl }
+  pub step-bare : t.stack.places.count ≤ 0 → t.top ≡ true → PutsStep t old at at old
+  step-bare h e = record { topped = λ x k. absurd (omega arith); passed = λ x. (refl, refl); low = λ h. h; same = refl }
 
-  pub step-passed : top ≡ false → PutsStep img top ino s old at at old
-  step-passed e = record { topped = λ t. absurd (let z : ◌≡◌ {A = ℕ} 0 1 = cc in omega arith); passed = λ t. (refl, refl); low = λ h. h; same = refl }
+  pub step-passed : t.top ≡ false → PutsStep t old at at old
+  step-passed e = record {
+    topped = λ x h. absurd (let z : ◌≡◌ {A = ℕ} 0 1 = cc in omega arith);
+    passed = λ x. (refl, refl);
+    low = λ h. h;
+    same = refl;
+  }
 
 -- ---- the rows of the topmost layer
 
@@ -80,11 +90,11 @@ none-records [] h = refl
 none-records (e ∷ l) h = cc
 
 -- a stack with a record has a place for it
-some-count : (img : List ℕ) (s : InodeLayerStack) {r : Record} {x : Pieces} → pieces_in img s ≡ (r ∷ x.0, x.1) → 0 < s.count
+some-count : (s : Stack) {r : Record} {x : Pieces} → pieces_in s ≡ (r ∷ x.0, x.1) → 0 < s.places.count
 unfolding records_on
-some-count img s {r} {x} e = go s.count (ap (λ (y : Pieces). y.0) e)
+some-count s {r} {x} e = go s.places.count (ap (λ (y : Pieces). y.0) e)
   where
-    go : (n : ℕ) → map (λ r. r.held) (records_on img (take n s.deltas) []) ≡ r ∷ x.0 → 0 < n
+    go : (n : ℕ) → map (λ r. r.held) (records_on s.img.now (take n s.places.deltas) []) ≡ r ∷ x.0 → 0 < n
     go zero e = absurd (let z : ◌≡◌ {A = ℕ} 0 1 = cc in omega arith)
     go (suc n) e = omega arith
 
@@ -118,8 +128,8 @@ module _ (b : Base) (ls : List Layer) (l : Layer) where
   unfolding stack_on
   stack_top k r p g i = i.pieces ∙ rw (stack-append, g)
 
-  module _ {img old : List ℕ} {at : ℕ} {rest : Walk} {buf : List ℕ} {next : ℕ} {step : Step} {after : Walk} (s : Steps img rest step after) (m : step.more ≡ true)
-      {out : List ℕ} {q : ℕ} (p : PutsStep img step.top step.inode step.stack buf next q out) where
+  module _ {img old : List ℕ} {at : ℕ} {rest : Walk} {buf : List ℕ} {next : ℕ} {step : Step} {after : Walk} (s : Steps img rest (Some step) after)
+      {out : List ℕ} {q : ℕ} (p : PutsStep step buf next q out) where
     rows_next : RowsLeft img old at rest buf next → RowsLeft img old at after out q
     unfolding pass rows_bytes
     rows_next w = go w.left w.tops w.found w.put
@@ -127,8 +137,8 @@ module _ (b : Base) (ls : List Layer) (l : Layer) where
         k : ℕ
         k = step.inode
 
-        all : Every (Is b (ls ++ (l ∷ []))) ((k, pieces_in img step.stack) ∷ stacks_left img after)
-        all = rw (s.stacks, m) at w.each
+        all : Every (Is b (ls ++ (l ∷ []))) ((k, pieces_in step.stack) ∷ stacks_left img after)
+        all = rw s.stacks at w.each
 
         rest-tops : top_of (sources_of img after) ≡ pass by_number k (top_of (sources_of img rest))
         rest-tops = ap top_of s.taken.rest ∙ top-pass k (sources_of img rest)
@@ -149,9 +159,9 @@ module _ (b : Base) (ls : List Layer) (l : Layer) where
             pick Greater c = stays (e ∷ x) t f u (rw c) (rw c)
             pick Equal c =
                 let z : k ≡ e.0 = same-N k e.0 c in
-                let i = stack_top k e.1 (pieces_in img step.stack) (rw z f.0) all.0 in
+                let i = stack_top k e.1 (pieces_in step.stack) (rw z f.0) all.0 in
                 let top : step.top ≡ true = s.taken.top ∙ rw (t, c) in
-                let y = p.topped top (some-count img step.stack {r = e.1} {x = (stack k ls, get by_number k b)} i) in
+                let y = p.topped top (some-count step.stack {r = e.1} {x = (stack k ls, get by_number k b)} i) in
                 record {
                   left = x;
                   tops = rest-tops ∙ rw (t, c);
@@ -172,18 +182,29 @@ pub record Laying (img : List ℕ) (w : Walk) (old : List ℕ) (at : ℕ) (rest 
 pub laying-start : {img : List ℕ} {w : Walk} {old : List ℕ} {at : ℕ} → Ready img w → at ≤ edge → length old < edge → Laying img w old at w old at
 laying-start r a s = record { ready = r; low = a; same = refl; short = s; puts = λ b ls l o. rows_start b ls l o }
 
-module _ {img : List ℕ} {w : Walk} {old : List ℕ} {at : ℕ} {rest : Walk} {buf : List ℕ} {next : ℕ} (g : Laying img w old at rest buf next) {step : Step} {after : Walk} (s : Steps img rest step after) where
-  pub laying-less : step.more ≡ true → length (stacks_left img after) < length (stacks_left img rest)
-  laying-less m = rw (s.stacks, m) (omega arith)
+module _ {img : List ℕ} {w : Walk} {old : List ℕ} {at : ℕ} {rest : Walk} {buf : List ℕ} {next : ℕ} (g : Laying img w old at rest buf next)
+    {o : Option Step} {after : Walk} (s : Steps img rest o after) where
+  module _ {step : Step} (e : o ≡ Some step) where
+    here : Steps img rest (Some step) after
+    here = rw e at s
 
-  pub laying-more : step.more ≡ true → {out : List ℕ} {q : ℕ} → PutsStep img step.top step.inode step.stack buf next q out → Laying img w old at after out q
-  laying-more m p = record { ready = s.ready; low = p.low g.low; same = p.same ∙ g.same; short = g.short; puts = λ b ls l o. rows_next b ls l s m p (g.puts b ls l o) }
+    pub laying-less : length (stacks_left img after) < length (stacks_left img rest)
+    laying-less = rw here.stacks (omega arith)
 
-  pub laying-end : step.more ≡ false → PutsRows img w old at next buf
+    pub laying-more : {out : List ℕ} {q : ℕ} → PutsStep step buf next q out → Laying img w old at after out q
+    laying-more p = record {
+      ready = here.ready;
+      low = p.low g.low;
+      same = p.same ∙ g.same;
+      short = g.short;
+      puts = λ b ls l o. rows_next b ls l here p (g.puts b ls l o);
+    }
+
+  pub laying-end : o ≡ None → PutsRows img w old at next buf
   unfolding rows_bytes
-  laying-end m = record {
+  laying-end e = record {
     puts = λ b ls l o.
         let x = g.puts b ls l o in
-        let z : x.left ≡ [] = none-records x.left (sym x.tops ∙ top-end (sources_of img rest) (s.ended m)) in
+        let z : x.left ≡ [] = none-records x.left (sym x.tops ∙ top-end (sources_of img rest) (s.ended e)) in
         x.put next buf (rw z (record { to = omega (arith, g.low); is = refl; short = omega (arith, g.short, g.same) }));
   }

@@ -1,12 +1,10 @@
 -- The image with a layer normalised: the layer's records are new, all else is copied.
-use Rattle.std.specs.Prelude.{List, [], ◌∷◌, ◌++◌, ℕ, length, Result}
+use Rattle.std.specs.Prelude.{List, [], ◌∷◌, ◌++◌, ℕ, length}
 use Rattle.wire.specs.Put.{Put}
 use Rattle.image.specs.Meaning.{Base, Layer}
 use Rattle.image.specs.RecordLayout.{records}
 use Rattle.rules.specs.Normalise.{normal_layer}
-use Rattle.change.specs.Changed.{Changes, if_fits}
 use Rattle.change.specs.Sections.{between, Spans}
-use Rattle.survey.specs.declared.refusal.Refusal.{Refusal}
 use Rattle.walk.specs.Opens.{Over}
 use Rattle.walk.specs.declared.open.Layers.{Layers}
 
@@ -22,6 +20,3 @@ normal_bytes img layers b ls l =
 
 pub record PutsImage (img : List ℕ) (layers : Layers) (old : List ℕ) (r : ℕ) (new : List ℕ) : Type 0 where
   pub puts : (b : Base) (ls : List Layer) (l : Layer) → LayerAt img layers b ls l → Put old 0 (normal_bytes img layers b ls l) r new
-
-pub record WritesImage (img : List ℕ) (layers : Layers) (old : List ℕ) (r : Result ℕ Refusal) (new : List ℕ) : Type 0 where
-  pub writes : (b : Base) (ls : List Layer) (l : Layer) → LayerAt img layers b ls l → Changes (if_fits (normal_bytes img layers b ls l) (length old)) old r new

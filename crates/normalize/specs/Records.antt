@@ -5,6 +5,7 @@ use Rattle.survey.specs.declared.batch.InodeLayerStack.{InodeLayerStack}
 use Rattle.rules.specs.Reads.{look, type, child}
 use Rattle.rules.specs.Normalise.{normal_record}
 use Rattle.stack.specs.Stacks.{shown, RecordIs}
+use Rattle.stack.specs.declared.stack.Stack.{Stack}
 use Rattle.wire.specs.Put.{Put}
 use Rattle.image.specs.RecordLayout.{layer_record}
 use Rattle.deltas.specs.Deltas.{entry_meant}
@@ -19,8 +20,11 @@ is_directory (Some symlink) = false
 is_directory (Some (special s)) = false
 
 -- held against a stack in the image
-abbrev pub normal_in : List ℕ → InodeLayerStack → Record → Record
-normal_in img s r = normal_record (λ name. shown (child name) img s) (shown type img s) r
+abbrev pub normal_at : List ℕ → InodeLayerStack → Record → Record
+normal_at img s r = normal_record (λ name. shown (child name) img s) (shown type img s) r
+
+abbrev pub normal_in : Stack → Record → Record
+normal_in s r = normal_at s.img.now s.places r
 
 -- held against records and a node
 abbrev pub normal_on : List Record → Option Node → Record → Record

@@ -4,11 +4,11 @@ ghost use Rattle.rules.specs.Initial.{usual};
 ghost use Rattle.rules.specs.ChangeCalls.{normalize_directory_deltas};
 ghost use Rattle.change.specs.Changed.{Changes};
 ghost use Rattle.walk.specs.Walks.{Ready};
-ghost use Rattle.normalize.specs.Images.{PutsImage, WritesImage};
+ghost use Rattle.normalize.specs.Images.{PutsImage};
 
 use crate::layer::put_normal_rows;
-use change::answer::lacks_room;
 use change::copy::put_between;
+use change::room::write_if_room;
 use change::section::open_sections;
 use image::field::LAST_WORD;
 use survey::refusal::Refusal;
@@ -29,21 +29,7 @@ pub fn normalize_directory_deltas(
         return Err(Refusal::NoLayer);
     }
     let layers = open_layers(img, sections, position + 1);
-    write_normal(img, layers, target)
-}
-
-// Measures the new image, and writes it to the target if there is room.
-fn write_normal(img: &[u8], layers: Layers, target: &mut [u8]) -> Result<usize, Refusal>
-    requires { Ready img.now layers.walk }
-    ensures { WritesImage img.now layers target.old result target.new }
-{
-    let mut none = [0u8; 0];
-    let size = put_normal(&mut none, img, layers);
-    if lacks_room(size, target.len()) {
-        return Err(Refusal::NoRoom);
-    }
-    let end = put_normal(target, img, layers);
-    Ok(end)
+    write_if_room(target, |buf| put_normal(buf, img, layers))
 }
 
 // The image, with its topmost layer of the walk normalised: all before and after its records is copied.
@@ -51,10 +37,9 @@ fn put_normal(buf: &mut [u8], img: &[u8], layers: Layers) -> usize
     requires { Ready img.now layers.walk }
     ensures { PutsImage img.now layers buf.old result buf.new }
 {
-    let walk = layers.walk;
     let (count, _) = read_number(img, layers.top, LAST_WORD).unwrap_or((0, 0));
     let counted = put_between(buf, 0, img, 0, layers.top);
     let first = put_number(buf, counted, count);
-    let next = put_normal_rows(buf, first, img, walk);
+    let next = put_normal_rows(buf, first, img, layers.walk);
     put_between(buf, next, img, layers.end, img.len())
 }

@@ -5,22 +5,21 @@ ghost use Rattle.image.specs.RecordLayout.{layer_record};
 ghost use Rattle.deltas.specs.Deltas.{entry_meant};
 ghost use Rattle.deltas.specs.declared.delta.EntryDelta.TheVariants as E;
 ghost use Rattle.deltas.specs.declared.delta.NodeDelta.TheVariants as D;
-ghost use Rattle.stack.specs.Stacks.{Stacked, RecordIs};
-ghost use Rattle.stack.specs.Stacks.{type_of};
+ghost use Rattle.stack.specs.Stacks.{RecordIs, type_of};
 ghost use Rattle.walk.specs.Walks.{pieces_in};
 ghost use Rattle.normalize.specs.Records.{is_directory, normal_in, normal_pieces, Copies};
 
-use attrs::node::FileType;
 use change::copy::put_between;
 use deltas::delta::{DirectoryDelta, EntryDelta, NodeDelta};
+use image::kind::FileType;
 use image::name::Under;
 use keep::below::names_in;
 use keep::keep::put_kept_list;
 use merge::merge::settle;
 use passes::record::pass_record;
-use stack::file_type::type_in;
-use stack::stack::record_at;
-use survey::batch::InodeLayerStack;
+use stack::file_type::Type;
+use stack::question::decided;
+use stack::stack::Stack;
 use wire::number::put_number;
 
 fn is_directory(found: Option<FileType>) -> bool
@@ -33,20 +32,20 @@ fn is_directory(found: Option<FileType>) -> bool
 fn put_normal_directory(
     buf: &mut [u8],
     at: usize,
-    img: &[u8],
     place: usize,
     directory: DirectoryDelta,
-    below: InodeLayerStack,
+    below: Stack,
 ) -> usize
-    requires { Stacked img.now below × RecordIs img.now place (E.Node (D.Directory directory)) }
-    ensures { Put buf.old at (layer_record.write (normal_in img.now below (entry_meant img.now (E.Node (D.Directory directory))))) result buf.new }
+    requires { RecordIs below.img.now place (E.Node (D.Directory directory)) }
+    ensures { Put buf.old at (layer_record.write (normal_in below.entry (entry_meant below.entry.img.now (E.Node (D.Directory directory))))) result buf.new }
 {
+    let img = below.img;
     let added = directory.added;
     let removed = directory.removed;
     let head = put_between(buf, at, img, place, added.start);
-    let found = type_in(img, below);
+    let found = decided(below, &Type);
     if is_directory(found) {
-        let merge = settle(img, names_in(img, below));
+        let merge = settle(img, names_in(below));
         let next = put_kept_list(buf, head, img, added, Under::Inode, merge);
         return put_kept_list(buf, next, img, removed, Under::Nothing, merge);
     }
@@ -63,20 +62,23 @@ fn put_record(buf: &mut [u8], at: usize, img: &[u8], place: usize) -> usize
 }
 
 // Writes the topmost record of a stack: as it stands, unless it is a directory delta.
-pub fn put_normal_record(buf: &mut [u8], at: usize, img: &[u8], stack: InodeLayerStack) -> usize
-    requires { Stacked img.now stack × (0 < stack.count) }
-    ensures { Put buf.old at (layer_record.write (normal_pieces (pieces_in img.now stack))) result buf.new }
+pub fn put_normal_record(buf: &mut [u8], at: usize, stack: Stack) -> usize
+    requires { 0 < stack.places.count }
+    ensures { Put buf.old at (layer_record.write (normal_pieces (pieces_in stack.entry))) result buf.new }
 {
-    let top = stack.count - 1;
-    let place = stack.deltas[top];
-    let entry = record_at(img, stack, top);
-    let EntryDelta::Node(delta) = entry else {
-        return put_record(buf, at, img, place);
+    let top = stack.places.count - 1;
+    let place = stack.places.deltas[top];
+    let EntryDelta::Node(delta) = stack.record(top) else {
+        return put_record(buf, at, stack.img, place);
     };
     let NodeDelta::Directory(directory) = delta else {
-        return put_record(buf, at, img, place);
+        return put_record(buf, at, stack.img, place);
     };
-    let mut below = stack;
-    below.count = top;
-    put_normal_directory(buf, at, img, place, directory, below)
+    let mut places = stack.places;
+    places.count = top;
+    let below = Stack {
+        img: stack.img,
+        places,
+    };
+    put_normal_directory(buf, at, place, directory, below)
 }

@@ -1,12 +1,12 @@
 -- The live directory delta of an inode, as it is read.
 -- Assumes nothing.
-use Rattle.std.specs.Prelude.{Result, Ok, Err, None, Option, Some}
+use Rattle.std.specs.Prelude.{Result, Ok, None, Option, Some}
 use mathlib.Core.Path.{◌≡◌, refl, sym, ◌∙◌}
 use mathlib.Core.List.{List}
 use Prim.Native.Nat.{ℕ}
 use lib.ListN.{drop}
 use Rattle.wire.specs.declared.fault.Fault.{Fault}
-use Rattle.wire.specs.Parse.{got, never-got}
+use Rattle.wire.specs.Parse.{got}
 use Rattle.image.specs.Meaning.{Record, tombstone}
 use Rattle.image.specs.RecordLayout.{layer_record}
 use Rattle.image.specs.Places.{Holds}
@@ -14,8 +14,7 @@ use Rattle.deltas.specs.Deltas.{entry_meant, AttrListed, EntryListed, ReadsEntry
 use Rattle.deltas.specs.declared.delta.NodeDelta.TheVariants.{Directory, File, Symlink, Fifo, CharDevice, BlockDevice, Socket}
 use Rattle.deltas.specs.declared.delta.EntryDelta.{EntryDelta}
 use Rattle.deltas.specs.declared.delta.EntryDelta.TheVariants as E
-use Rattle.overlay.specs.Directories.{bare_delta, directory_of, IsDirectory, Lives, LivesAt}
-use Rattle.overlay.specs.declared.delta.LiveDelta.{LiveDelta}
+use Rattle.overlay.specs.Directories.{directory_of, Lives, LivesAt}
 
 -- ---- the live record, read
 
@@ -43,18 +42,3 @@ module _ {img : List ℕ} {at : ℕ} {o : Result (EntryDelta × ℕ) Fault} (r :
           let d : got (entry_meant img e) (drop q img) ≡ got a h.0 = sym w.reads.same ∙ h.1 in
           let z : entry_meant img e ≡ a = cc in
           rw (← z) (lives-as img e _ q w.attributes w.lists)
-
-  -- none can be read there
-  pub lives_nowhere : {f : Fault} (live : Option LiveDelta) → o ≡ Err f → LivesAt img (Some at) live
-  lives_nowhere live d = record { lives = go }
-    where
-      go : (o : Option Record) → Holds img layer_record.read (Some at) o → Lives img live o
-      go None h = absurd h
-      go (Some a) h = never-got (sym (rw d at r).reads.same ∙ h.1)
-
-pub lives-bare : {img : List ℕ} → LivesAt img None (Some bare_delta)
-lives-bare {img} = record { lives = go }
-  where
-    go : (o : Option Record) → Holds img layer_record.read None o → IsDirectory img bare_delta o
-    go None h = record { becomes = λ D. refl; attributes = (0, tt); added = (0, tt); removed = (0, tt) }
-    go (Some a) h = absurd h

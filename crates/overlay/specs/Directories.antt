@@ -1,6 +1,6 @@
 -- The live directory delta of an inode. Document 01: "Add entry, remove entry and set parent act on the live directory delta, making an empty
 -- one if there is no live record; on a live record of another sort they do nothing."
-use Rattle.wire.specs.declared.text.Part.{Part}
+use Rattle.wire.specs.declared.part.Part.{Part}
 use Rattle.std.specs.Prelude.{◌≡◌, List, ℕ, None, Option, Some}
 use Rattle.wire.specs.Orders.{by_bytes}
 use Rattle.wire.specs.Maps.{Map, empty}
@@ -55,7 +55,8 @@ list_or img u None = empty by_bytes
 
 -- the live record is this directory delta, or there is none
 pub record IsDirectory (img : List ℕ) (d : LiveDelta) (o : Option Record) : Type 0 where
-  pub becomes : (D : DirectoryChange) → on_directory D o ≡ Some (on_delta D (fields_meant img d.attr_delta) (directory d.parent (list_or img U.Inode d.added) (list_or img U.Nothing d.removed)))
+  pub becomes : (D : DirectoryChange) → on_directory D o
+      ≡ Some (on_delta D (fields_meant img d.attr_delta) (directory d.parent (list_or img U.Inode d.added) (list_or img U.Nothing d.removed)))
   pub attributes : (end : ℕ) × ListedIf img U.Change d.attr_delta.xattrs end
   pub added : (end : ℕ) × ListedIf img U.Inode d.added end
   pub removed : (end : ℕ) × ListedIf img U.Nothing d.removed end

@@ -1,5 +1,5 @@
 -- Lists by name with the row of a name changed: parts of the old image, and what is new.
-use Rattle.wire.specs.declared.text.Part.{Part}
+use Rattle.wire.specs.declared.part.Part.{Part}
 use Rattle.std.specs.Prelude.{List, [], ◌∷◌, ◌++◌, ℕ, None, Option, Some}
 use Rattle.wire.specs.Number.{number_bytes}
 use Rattle.wire.specs.Text.{text_bytes}

@@ -4,7 +4,7 @@ ghost use Rattle.overlay.specs.Directories.{directory_of, node_directory, whole_
 
 use deltas::delta::{DirectoryDelta, EntryDelta, NodeDelta, read_entry_delta};
 use nodes::attr::AttrDelta;
-use wire::text::Part;
+use wire::part::Part;
 
 // A directory delta. A list that isn't there is empty.
 #[derive(Clone, Copy)]

@@ -5,8 +5,9 @@ ghost use Rattle.overlay.specs.NewLists.{row_bytes, changed_bytes, list_bytes, k
 
 use change::copy::put_between;
 use wire::number::put_number;
+use wire::part::Part;
 use wire::put::put_part;
-use wire::text::{Part, put_text};
+use wire::text::put_text;
 
 // The row of a name, afterwards.
 #[derive(Clone, Copy)]
@@ -106,7 +107,7 @@ pub fn put_list(
 {
     match list {
         NewList::Empty => put_number(buf, at, 0),
-        NewList::Kept(part) => put_part(buf, at, img, part.start, part.length),
+        NewList::Kept(part) => put_part(buf, at, img, part),
         NewList::Changed(rows) => put_rows(buf, at, img, given, new_name, rows),
     }
 }

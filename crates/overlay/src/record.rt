@@ -7,13 +7,15 @@ ghost use Rattle.overlay.specs.NewRecords.{directory_bytes, bare_bytes, change_b
 
 use crate::list::{NewList, put_list};
 use change::copy::put_between;
+use image::field::Inode;
+use image::kind::FileType;
 use meld::merged::put_changes;
 use nodes::attr::AttrDelta;
 use records::write_node::put_list_if;
 use wire::number::put_number;
+use wire::part::Part;
 use wire::put::put_bytes;
-use wire::text::Part;
-use writers::write::put_maybe_number;
+use writers::field::put_maybe;
 use writers::write_attr::put_attr_delta;
 
 // A directory delta. Its attribute changes stand in the image.
@@ -34,10 +36,10 @@ pub enum NewChange {
     Bare,
 }
 
-// A delta of this code. Its attribute changes are those of the delta given, merged with those in the image.
+// A delta of this kind. Its attribute changes are those of the delta given, merged with those in the image.
 #[derive(Clone, Copy)]
 pub struct Updated {
-    pub code: u64,
+    pub kind: FileType,
     pub attr_delta: AttrDelta,
     pub new: Option<Part>,
     pub old: Option<Part>,
@@ -101,36 +103,38 @@ fn put_directory(
     let fields = put_number(buf, at, 1);
     let list = put_attr_delta(buf, fields, attr_delta);
     let change = put_list_if(buf, list, img, xattrs);
-    let entries = put_maybe_number(buf, change, parent);
+    let entries = put_maybe::<Inode>(buf, change, img, parent);
     let names = put_list(buf, entries, img, given, new_name, added);
     put_list(buf, names, img, given, new_name, removed)
 }
 
 // A change by kind that changes nothing: of a directory no parent and two empty lists, else one 0.
-fn put_bare(buf: &mut [u8], at: usize, code: u64) -> usize
-    ensures { Put buf.old at (bare_bytes code) result buf.new }
+fn put_bare(buf: &mut [u8], at: usize, kind: FileType) -> usize
+    ensures { Put buf.old at (bare_bytes kind) result buf.new }
 {
-    if code == 1 {
-        let added = put_number(buf, at, 0);
-        let removed = put_number(buf, added, 0);
-        return put_number(buf, removed, 0);
+    match kind {
+        FileType::Directory => {
+            let added = put_number(buf, at, 0);
+            let removed = put_number(buf, added, 0);
+            put_number(buf, removed, 0)
+        }
+        _ => put_number(buf, at, 0),
     }
-    put_number(buf, at, 0)
 }
 
 fn put_new_change(
     buf: &mut [u8],
     at: usize,
     img: &[u8],
-    code: u64,
+    kind: FileType,
     change: NewChange,
     after: usize,
 ) -> usize
-    ensures { Put buf.old at (change_bytes img.now code change after) result buf.new }
+    ensures { Put buf.old at (change_bytes img.now kind change after) result buf.new }
 {
     match change {
         NewChange::Kept(start) => put_between(buf, at, img, start, after),
-        NewChange::Bare => put_bare(buf, at, code),
+        NewChange::Bare => put_bare(buf, at, kind),
     }
 }
 
@@ -149,10 +153,11 @@ fn put_updated(
     let new = updated.new;
     let old = updated.old;
     let change = updated.change;
-    let fields = put_number(buf, at, updated.code);
+    let kind = updated.kind;
+    let fields = put_number(buf, at, kind.number() + 1);
     let list = put_attr_delta(buf, fields, attr_delta);
     let rest = put_changes(buf, list, img, given, new, old);
-    put_new_change(buf, rest, img, updated.code, change, after)
+    put_new_change(buf, rest, img, kind, change, after)
 }
 
 // What comes before the row of a record.

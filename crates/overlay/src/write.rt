@@ -1,12 +1,13 @@
 // The one writer of images with other live records: one that changes, or up to four. Everything else is copied from the old image.
 ghost use Rattle.std.specs.Prelude.{◌≤◌, [], ◌∷◌, ◌≡◌};
 ghost use Rattle.wire.specs.Lists.{last_count};
-ghost use Rattle.overlay.specs.NewRecords.{lead_in, Puts, WritesOne, WritesAll, edits_of, replaced_of, unchanged_of};
+ghost use Rattle.wire.specs.Put.{Put};
+ghost use Rattle.overlay.specs.NewRecords.{lead_in, one_image, new_image, Puts, WritesOne, WritesAll, edits_of, replaced_of, unchanged_of};
 
 use crate::record::{Edit, Head, Lead, NewRecord, put_edit};
-use change::answer::lacks_room;
 use change::copy::put_between;
 use change::cut::{Cut, count_after};
+use change::room::write_if_room;
 use change::section::Sections;
 use survey::refusal::Refusal;
 
@@ -30,7 +31,7 @@ pub struct NewRecords {
     pub four: Edit,
 }
 
-// Another record of the inode where the records are cut.
+// Another record of the inode where the records are cut. A clause on the count, and no fact of `Cut`: `unchanged` asks nothing of its cut.
 pub fn replaced(cut: Cut, ino: u64, new: NewRecord) -> NewLive
     requires { cut.count ≤ last_count }
     ensures { result ≡ replaced_of cut ino new }
@@ -75,15 +76,9 @@ pub fn write_record(
 ) -> Result<usize, Refusal>
     ensures { WritesOne img.now given.now new_name.now sections new target.old result target.new }
 {
-    let edit = new.edit;
-    let lead = lead_in(sections, new.count, new.first);
-    let mut none = [0u8; 0];
-    let size = put_image(&mut none, 0, img, given, new_name, lead, edit);
-    if lacks_room(size, target.len()) {
-        return Err(Refusal::NoRoom);
-    }
-    let end = put_image(target, 0, img, given, new_name, lead, edit);
-    Ok(end)
+    write_if_room(target, |buf| {
+        put_changed(buf, img, given, new_name, sections, new)
+    })
 }
 
 // The same with up to four records changed.
@@ -97,14 +92,39 @@ pub fn write_records(
 ) -> Result<usize, Refusal>
     ensures { WritesAll img.now given.now new_name.now sections new target.old result target.new }
 {
+    write_if_room(target, |buf| {
+        put_all_changed(buf, img, given, new_name, sections, new)
+    })
+}
+
+// The image with one record changed.
+fn put_changed(
+    buf: &mut [u8],
+    img: &[u8],
+    given: &[u8],
+    new_name: &[u8],
+    sections: Sections,
+    new: NewLive,
+) -> usize
+    ensures { Put buf.old 0 (one_image img.now given.now new_name.now sections new) result buf.new }
+{
     let lead = lead_in(sections, new.count, new.first);
-    let mut none = [0u8; 0];
-    let size = put_images(&mut none, 0, img, given, new_name, lead, new);
-    if lacks_room(size, target.len()) {
-        return Err(Refusal::NoRoom);
-    }
-    let end = put_images(target, 0, img, given, new_name, lead, new);
-    Ok(end)
+    put_image(buf, 0, img, given, new_name, lead, new.edit)
+}
+
+// The same with up to four.
+fn put_all_changed(
+    buf: &mut [u8],
+    img: &[u8],
+    given: &[u8],
+    new_name: &[u8],
+    sections: Sections,
+    new: NewRecords,
+) -> usize
+    ensures { Put buf.old 0 (new_image img.now given.now new_name.now sections new) result buf.new }
+{
+    let lead = lead_in(sections, new.count, new.first);
+    put_images(buf, 0, img, given, new_name, lead, new)
 }
 
 fn lead_in(sections: Sections, count: u64, first: usize) -> Lead

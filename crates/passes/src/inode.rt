@@ -35,7 +35,8 @@ pub fn inode_after(img: &[u8], at: usize, before: Option<u64>) -> Result<(u64, u
     Ok((number, next))
 }
 
-fn pass_held(img: &[u8], at: usize, what: Held) -> Result<usize, Fault>
+// Passes what stands under an inode. A `match`, no type parameter: the laws of a walk lay nodes and records over one another, by this value.
+pub fn pass_held(img: &[u8], at: usize, what: Held) -> Result<usize, Fault>
     ensures { Ends img.now (held what).read at result }
 {
     match what {

@@ -4,7 +4,7 @@ use Rattle.std.specs.Prelude.{None, Result, Ok, Err}
 use mathlib.Core.Path.{◌≡◌, refl, sym, ap, ◌∙◌}
 use mathlib.Core.Bool.{true, false}
 use mathlib.Core.List.{List, [], ◌∷◌, ◌++◌, append-nil, append_assoc}
-use Prim.Native.Nat.{ℕ, zero, suc, ◌+◌, ◌≤◌, ◌<◌}
+use Prim.Native.Nat.{ℕ, suc, ◌+◌, ◌≤◌, ◌<◌}
 use native.Mathlib.Omega.{arith}
 use lib.ListN.{length, drop, length-append, drop_of_length-le}
 use borrow.Author.Tests.{le-leb, lt-leb, eq-eqb, ne_eqb}
@@ -29,7 +29,7 @@ use Rattle.writers.specs.declared.batch.BatchHead.{BatchHead}
 use Rattle.writers.specs.declared.tail.Tail.{Tail}
 use Rattle.rules.specs.Initial.{usual}
 use Rattle.rules.specs.Calls.{Limits, Call}
-use Rattle.rules.specs.Queue.{reason_of, frozen_batch, frozen}
+use Rattle.rules.specs.Queue.{frozen_batch, frozen}
 use Rattle.rules.specs.Refusals.{is_empty, sum_of, is_full}
 use Rattle.rules.specs.Outcomes.{result}
 use Rattle.rules.specs.ChangeCalls.{freeze_live}
@@ -42,6 +42,7 @@ use Rattle.waiting.specs.NewQueues.{refrozen}
 use Rattle.survey.specs.declared.refusal.Refusal.{Refusal}
 use Rattle.survey.specs.declared.refusal.Refusal.TheVariants as D
 use Rattle.waiting.specs.declared.batch.Queue.{Queue}
+use Rattle.waiting.specs.declared.write.Frozen.{Frozen}
 use Rattle.change.specs.declared.section.Sections.{Sections}
 use Rattle.change.proofs.Sections.{span-part, span-front, span-reads, same_Ok, value-ok, store_bytes, stands-fits}
 use Rattle.change.proofs.Finishing.{changes-refused, changes-made}
@@ -53,11 +54,6 @@ use Rattle.change.proofs.Queued.{stands-counted, stands-count, stands-queue}
 not-empty : {A : Type 0} (l : List A) → (length l ≡ 0 → ⊥) → is_empty l ≡ false
 not-empty [] h = absurd (h refl)
 not-empty (a ∷ l) h = refl
-
--- "requested reason (else Threshold)"
-pub reason-given : (n : ℕ) → (n ≡ 0 → ⊥) → n ≡ reason_of n
-reason-given zero h = absurd (h refl)
-reason-given (suc n) h = refl
 
 -- ---- the new image
 
@@ -93,7 +89,8 @@ pub live-read : {img : List ℕ} {p : Sections} {s : Store} → Stands img p s �
     → o ≡ Ok (length s.live.rows, p.live + length (number_bytes (length s.live.rows)))
 live-read {s = s} w l =
     span-reads (number_to last_count refl)
-    (span-front (number_bytes (length s.live.rows)) (chain_write (row by_number inode layer_record) (onto by_number inode layer_record) None s.live.rows) w.live)
+    (span-front (number_bytes (length s.live.rows)) (chain_write (row by_number inode layer_record)
+    (onto by_number inode layer_record) None s.live.rows) w.live)
     (omega (arith, (stands-fits w).live.count)) l
 
 module _ {img : List ℕ} {p : Sections} {s : Store} (w : Stands img p s) (depth bytes operations : ℕ) (time : Time) where
@@ -124,7 +121,8 @@ module _ {img : List ℕ} {p : Sections} {s : Store} (w : Stands img p s) (depth
         → Changes (freeze_live usual img depth bytes operations time (length old)) old (Err D.AtCapacity) old
     freeze-full h = changes-refused (Call.freeze limits time) w (rw (lt-leb 1000000000 time.nanos ok, full_is, h))
 
-    module _ (h : at_capacity queue depth bytes operations ≡ false) {o : Result (ℕ × ℕ) Fault} (l : Reads img (number_read last_count) p.live o) {x : ℕ × ℕ} (y : o ≡ Ok x) where
+    module _ (h : at_capacity queue depth bytes operations ≡ false) {o : Result (ℕ × ℕ) Fault}
+        (l : Reads img (number_read last_count) p.live o) {x : ℕ × ℕ} (y : o ≡ Ok x) where
       live-count : x.0 ≡ length s.live.rows
       live-count = ap (λ (x : ℕ × ℕ). x.0) (same_Ok (sym y ∙ live-read w l))
 
@@ -152,23 +150,27 @@ module _ {img : List ℕ} {p : Sections} {s : Store} (w : Stands img p s) (depth
             changes-refused (Call.freeze limits time) w
             (rw (lt-leb 1000000000 time.nanos ok, full_is, h, live-not, eq-eqb s.next edge (sym next-is ∙ e)))
 
-        made_bytes : {head : BatchHead} {later : Tail} → head_meant head ≡ frozen_head (tail_meant staged) time → tail_meant later ≡ tail_after_id staged.next_id
-            → refrozen img p (record { first = queue.first; count = queue.count + 1; head = head; tail = later })
+        abbrev one_more : BatchHead → Tail → Frozen
+        one_more head later = record { first = queue.first; count = queue.count + 1; head = head; tail = later }
+
+        made_bytes : (head : BatchHead) (later : Tail) → head_meant head ≡ frozen_head (tail_meant staged) time
+            → tail_meant later ≡ tail_after_id staged.next_id
+            → refrozen img p (one_more head later)
             ≡ base.write s.base ++ (number_bytes (length s.batches + 1) ++ (queue_bytes s.batches
             ++ (batch_head.write (frozen_head (tail_of s) time) ++ (records.write s.live ++ (number_bytes 0 ++ tail.write (tail_after_id s.next))))))
-        made_bytes eh et =
+        made_bytes head later eh et =
             let n = ap (λ (m : ℕ). m + 1) counted in
             let q = ap (λ (m : ℕ). between img m p.live) k.totals.from ∙ span-part (stands-queue w k.reads placed) in
             let h = eh ∙ ap (λ (x : TailParts). frozen_head x time) staged-is in
             let l = et ∙ ap tail_after_id next-is in
             λ i. span-part w.base i ++ (number_bytes (n i) ++ (q i ++ (batch_head.write (h i) ++ (span-part w.live i ++ (number_bytes 0 ++ tail.write (l i))))))
 
-        pub freeze-made : {old new : List ℕ} {answer : Result ℕ Refusal} {head : BatchHead} {later : Tail} → (staged.next_id ≡ edge → ⊥)
+        pub freeze-made : {old new : List ℕ} {answer : Result ℕ Refusal} (head : BatchHead) (later : Tail) → (staged.next_id ≡ edge → ⊥)
             → head_meant head ≡ frozen_head (tail_meant staged) time → tail_meant later ≡ tail_after_id staged.next_id
-            → Changes (if_fits (refrozen img p (record { first = queue.first; count = queue.count + 1; head = head; tail = later })) (length old)) old answer new
+            → Changes (if_fits (refrozen img p (one_more head later)) (length old)) old answer new
             → Changes (freeze_live usual img depth bytes operations time (length old)) old answer new
         unfolding result
-        freeze-made {head = head} {later} n eh et =
-            changes-made (Call.freeze limits time) w {bytes = refrozen img p (record { first = queue.first; count = queue.count + 1; head = head; tail = later })}
+        freeze-made head later n eh et =
+            changes-made (Call.freeze limits time) w {bytes = refrozen img p (one_more head later)}
             (rw (lt-leb 1000000000 time.nanos ok, full_is, h, live-not, ne_eqb s.next edge (λ y. n (next-is ∙ y))))
-            (made_bytes eh et ∙ sym (frozen-bytes time s))
+            (made_bytes head later eh et ∙ sym (frozen-bytes time s))

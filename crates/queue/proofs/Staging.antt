@@ -1,13 +1,12 @@
 -- Calls that change only what follows live: request and note.
 -- Assumes nothing.
-use mathlib.Core.Path.{◌≡◌, refl, sym, ap, ◌∙◌}
-use mathlib.Core.Bool.{Bool, true, false, ◌||◌}
+use mathlib.Core.Path.{◌≡◌, sym, ap, ◌∙◌}
+use mathlib.Core.Bool.{true, false, ◌||◌}
 use mathlib.Core.List.{List, ◌++◌}
 use Prim.Native.Nat.{ℕ, ◌+◌, ◌≤◌, ◌<◌}
-use native.Mathlib.Omega.{arith}
 use lib.ListN.{length}
-use borrow.Author.Tests.{lt-ltb, le-ltb, ltb-false}
-use Rattle.std.specs.Prelude.{Result, Ok, Err, IsOk}
+use borrow.Author.Tests.{lt-ltb, le-ltb}
+use Rattle.std.specs.Prelude.{Option, Result, Ok, Err, IsOk}
 use Rattle.wire.specs.declared.fault.Fault.{Fault}
 use Rattle.wire.specs.Reading.{Reads, meant}
 use Rattle.image.specs.Meaning.{Store}
@@ -16,6 +15,8 @@ use Rattle.image.specs.RecordLayout.{records}
 use Rattle.image.specs.StoreLayout.{batches}
 use Rattle.image.specs.RoundTrip.{write_image}
 use Rattle.image.proofs.RoundTrip.{read_fits}
+use Rattle.survey.specs.Reasons.{request_number}
+use Rattle.survey.specs.declared.reason.Reason.{Reason}
 use Rattle.writers.specs.Tails.{TailParts, tail, tail_meant}
 use Rattle.writers.specs.declared.tail.Tail.{Tail}
 use Rattle.rules.specs.Initial.{usual}
@@ -38,14 +39,16 @@ use Rattle.change.proofs.Finishing.{changes-refused, changes-made}
 abbrev retailed : TailParts → Store → Store
 retailed t s = record { base = s.base; batches = s.batches; live = s.live; next = t.0; bytes = t.1.0; operations = t.1.1.0; request = t.1.1.1 }
 
--- counts that don't pass the last
-pub counts-in : (b n o : ℕ) → (past_count (b + n) || past_count (o + 1)) ≡ false → (b + n ≤ 4294967295) × (o + 1 ≤ 4294967295)
-counts-in b n o h = go (past_count (b + n)) refl (past_count (o + 1)) refl h
-  where
-    go : (x : Bool) → past_count (b + n) ≡ x → (y : Bool) → past_count (o + 1) ≡ y → (x || y) ≡ false → (b + n ≤ 4294967295) × (o + 1 ≤ 4294967295)
-    go true d y f h = absurd (let z : ◌≡◌ {A = ℕ} 0 1 = cc in omega arith)
-    go false d true f h = absurd (let z : ◌≡◌ {A = ℕ} 0 1 = cc in omega arith)
-    go false d false f h = (ltb-false 4294967295 (b + n) d, ltb-false 4294967295 (o + 1) f)
+abbrev requested : ℕ → TailParts → Store → Store
+requested r t = retailed (t.0, (t.1.0, (t.1.1.0, r)))
+
+-- the tail with another request
+abbrev requesting : Option Reason → Tail → Tail
+requesting q t = record { next_id = t.next_id; bytes = t.bytes; operations = t.operations; request = q }
+
+-- the tail with one operation more, and so many bytes
+abbrev noting : ℕ → Tail → Tail
+noting n t = record { next_id = t.next_id; bytes = t.bytes + n; operations = t.operations + 1; request = t.request }
 
 module _ {img : List ℕ} {p : Sections} {s : Store} (w : Stands img p s) where
   pub before-tail : between img 0 p.tail ≡ base.write s.base ++ (batches.write s.batches ++ records.write s.live)
@@ -74,13 +77,13 @@ module _ {img : List ℕ} {p : Sections} {s : Store} (w : Stands img p s) where
   request-refused {r} h = changes-refused (Call.request r) w (rw (lt-ltb 5 r h))
 
   module _ {o : Result (Tail × ℕ) Fault} (k : Reads img tail.read p.tail (meant tail_meant o)) {x : Tail × ℕ} (y : o ≡ Ok x) where
-    pub request-made : {r : ℕ} {old new : List ℕ} {a : Result ℕ Refusal} → r ≤ 5
-        → Changes (if_fits (restaged img p (record { next_id = x.0.next_id; bytes = x.0.bytes; operations = x.0.operations; request = r })) (length old)) old a new
+    pub request-made : {r : ℕ} (q : Option Reason) {old new : List ℕ} {a : Result ℕ Refusal} → r ≤ 5 → request_number q ≡ r
+        → Changes (if_fits (restaged img p (requesting q x.0)) (length old)) old a new
         → Changes (request_freeze usual img r (length old)) old a new
     unfolding result
-    request-made {r} h =
+    request-made {r} q h e =
         changes-made (Call.request r) w (rw (le-ltb 5 r h))
-        (restaged-bytes _ ∙ ap (λ (t : TailParts). write_image (retailed (t.0, (t.1.0, (t.1.1.0, r))) s)) (stands-tail _ k y))
+        (restaged-bytes (requesting q x.0) ∙ (λ j. write_image (requested (e j) (stands-tail _ k y j) s)))
 
     -- ---- "Note adds one operation and given bytes to the staged counts"
 
@@ -91,7 +94,7 @@ module _ {img : List ℕ} {p : Sections} {s : Store} (w : Stands img p s) where
         changes-refused (Call.note n) w (rw (← (ap (λ (t : TailParts). t.1.0) e), ← (ap (λ (t : TailParts). t.1.1.0) e), h))
 
     pub note-made : (n : ℕ) {old new : List ℕ} {a : Result ℕ Refusal} → (past_count (x.0.bytes + n) || past_count (x.0.operations + 1)) ≡ false
-        → Changes (if_fits (restaged img p (record { next_id = x.0.next_id; bytes = x.0.bytes + n; operations = x.0.operations + 1; request = x.0.request })) (length old)) old a new
+        → Changes (if_fits (restaged img p (noting n x.0)) (length old)) old a new
         → Changes (record_mutation usual img n (length old)) old a new
     unfolding result
     note-made n h =

@@ -1,6 +1,7 @@
 // The queue of batches, and what is staged for the next one.
 ghost use Rattle.std.specs.Prelude.{◌≡◌, ◌||◌, ◌+◌, ◌<◌, length};
 ghost use Rattle.wire.specs.Number.{edge};
+ghost use Rattle.survey.specs.Reasons.{reason_number, request_number};
 ghost use Rattle.writers.specs.Batches.{head_meant};
 ghost use Rattle.writers.specs.Tails.{tail_meant};
 ghost use Rattle.rules.specs.Queue.{reason_of};
@@ -13,6 +14,7 @@ ghost use Rattle.change.specs.Changed.{Changes};
 use change::batch::pass_batch;
 use change::section::open_sections;
 use image::field::LAST_WORD;
+use survey::reason::Reason;
 use survey::refusal::Refusal;
 use waiting::batch::{Queue, read_queue};
 use waiting::write::{Frozen, NewQueue, Popped, write_queue};
@@ -21,7 +23,7 @@ use wire::time::Time;
 use writers::batch::BatchHead;
 use writers::tail::{Tail, read_tail};
 
-// Requests a freeze, for a reason from 1 to 5; 0 takes a request back.
+// Requests a freeze, for a reason from 1 to 5; 0 takes a request back. It takes any number, as C gives it.
 pub fn request(img: &[u8], reason: u64, target: &mut [u8]) -> Result<usize, Refusal>
     ensures { Changes (request_freeze usual img.now reason (length target.old)) target.old result target.new }
 {
@@ -31,10 +33,8 @@ pub fn request(img: &[u8], reason: u64, target: &mut [u8]) -> Result<usize, Refu
     }
     let (staged, _) = read_tail(img, sections.tail).unwrap();
     let tail = Tail {
-        next_id: staged.next_id,
-        bytes: staged.bytes,
-        operations: staged.operations,
-        request: reason,
+        request: Reason::numbered(reason),
+        ..staged
     };
     write_queue(img, sections, NewQueue::Staged(tail), target)
 }
@@ -53,10 +53,9 @@ pub fn record_mutation(
         return Err(Refusal::CountFull);
     }
     let tail = Tail {
-        next_id: staged.next_id,
         bytes: staged.bytes + (additional_bytes as u32),
         operations: staged.operations + 1,
-        request: staged.request,
+        ..staged
     };
     write_queue(img, sections, NewQueue::Staged(tail), target)
 }
@@ -146,14 +145,11 @@ fn frozen_head(staged: Tail, wall_now: Time) -> BatchHead
     }
 }
 
-// The reason requested, or else 5, a threshold.
-fn reason_of(request: u64) -> u64
-    ensures { result ≡ reason_of request }
+// The reason requested, or else a threshold.
+fn reason_of(request: Option<Reason>) -> Reason
+    ensures { reason_number result ≡ reason_of (request_number request) }
 {
-    if request == 0 {
-        return 5;
-    }
-    request
+    request.unwrap_or(Reason::Threshold)
 }
 
 // Nothing staged, after the batch with this id.
@@ -165,7 +161,7 @@ fn tail_after(id: u64) -> Tail
         next_id: id + 1,
         bytes: 0,
         operations: 0,
-        request: 0,
+        request: None,
     }
 }
 

@@ -1,6 +1,6 @@
 -- What is written of a record or node whose lists stand in the image is what the layout writes.
 -- Assumes nothing.
-use Rattle.wire.specs.declared.text.Part.{Part}
+use Rattle.wire.specs.declared.part.Part.{Part}
 use Rattle.std.specs.Prelude.{None, Option, Some}
 use mathlib.Core.Path.{◌≡◌, refl, sym}
 use mathlib.Core.List.{List, ◌++◌, append_assoc, append-nil}

@@ -1,5 +1,5 @@
 -- What the writers of whole records and nodes write: the fields by value, the lists and texts as they stand in the image.
-use Rattle.wire.specs.declared.text.Part.{Part}
+use Rattle.wire.specs.declared.part.Part.{Part}
 use Rattle.std.specs.Prelude.{List, [], ◌++◌, ℕ, suc, None, Option, Some}
 use Rattle.wire.specs.Number.{number_bytes}
 use Rattle.wire.specs.Text.{text_bytes}

@@ -17,17 +17,16 @@ use Rattle.rules.specs.PlacedReads.{look_placed, placed_entries, placed_values, 
 use Rattle.rules.specs.ReadCalls.{row_of}
 use Rattle.rules.proofs.MapValues.{map_row, map_values, map_rows, get-map, map-empty, map-merge}
 use Rattle.rules.proofs.Forgotten.{forgotten, starts-forgotten}
-use Rattle.rows.specs.declared.listing.Listing.{Listing}
-use Rattle.rows.specs.declared.listing.Listing.TheVariants as L
-use Rattle.survey.specs.declared.batch.InodeLayerStack.{InodeLayerStack}
-use Rattle.gather.specs.declared.gather.Lists.TheVariants as G
+use Rattle.gather.specs.declared.gather.Listing.{Listing}
+use Rattle.gather.specs.declared.gather.Listing.TheVariants as L
 use Rattle.gather.specs.Gathers.{removed_at, body_pile, change_pile, alter_pile, record_pile, pile_of, Gathers}
 use Rattle.stack.specs.Stacks.{records_in, node_in}
-use Rattle.merge.specs.declared.merge.Sources.{Sources}
+use Rattle.stack.specs.declared.stack.Stack.{Stack}
+use Rattle.merge.specs.declared.sources.Sources.{Sources}
 use Rattle.merge.specs.Pile.{merged, itself, decisions}
 use Rattle.merge.specs.Sources.{Given, Decided, decided}
-use Rattle.merge.specs.Merges.{plain_row, decided_rows}
-use Rattle.rows.specs.Listings.{lists_of, rows_listed}
+use Rattle.merge.specs.Merges.{listed, plain_row, decided_rows}
+use Rattle.rows.specs.Listings.{rows_listed, rows_in}
 use Rattle.merge.proofs.Piles.{pile-merged}
 use Rattle.merge.proofs.Lists.{Deciding, pile_rows, source_of}
 
@@ -94,16 +93,18 @@ change-decides p f (file n) below es e = e
 change-decides p f (symlink t) below es e = e
 change-decides p f (special s device) below es e = e
 
-entries-decide : (rs : List (Placed Record)) (b : Option (Placed Node)) → merges (pile_of G.Entries rs b) ≡ map_values by_bytes inoded (look_placed placed_entries rs b)
+entries-decide : (rs : List (Placed Record)) (b : Option (Placed Node))
+    → merges (pile_of L.Entries None rs b) ≡ map_values by_bytes inoded (look_placed placed_entries rs b)
 unfolding look_placed merged
 entries-decide [] None = sym (map-empty by_bytes inoded)
 entries-decide [] (Some n) = body-decides n.place n.held.meta n.held.body
 entries-decide (r ∷ rs) b = go r.held (entries-decide rs b)
   where
-    go : (h : Record) → merges (pile_of G.Entries rs b) ≡ map_values by_bytes inoded (look_placed placed_entries rs b)
-        → merges (record_pile G.Entries r.place h (pile_of G.Entries rs b)) ≡ map_values by_bytes inoded (record_starts r.place h (look_placed placed_entries rs b))
+    go : (h : Record) → merges (pile_of L.Entries None rs b) ≡ map_values by_bytes inoded (look_placed placed_entries rs b)
+        → merges (record_pile L.Entries None r.place h (pile_of L.Entries None rs b))
+        ≡ map_values by_bytes inoded (record_starts r.place h (look_placed placed_entries rs b))
     go tombstone ih = sym (map-empty by_bytes inoded)
-    go (delta d) ih = change-decides r.place d.fields d.change (pile_of G.Entries rs b) (look_placed placed_entries rs b) ih
+    go (delta d) ih = change-decides r.place d.fields d.change (pile_of L.Entries None rs b) (look_placed placed_entries rs b) ih
 
 -- ---- attributes
 
@@ -122,16 +123,18 @@ alter-decides p f None below vs e = e
 alter-decides p f (Some cs) below vs e =
     rw e (sym (map-merge by_bytes zeroed (decided U.Change) (λ name c old. set_start c) (itself by_bytes) (λ k c o. set-zeroed c.0 c.1) (starts (maybe value) (changes_at p f cs) cs) vs))
 
-values-decide : (rs : List (Placed Record)) (b : Option (Placed Node)) → merges (pile_of G.Attributes rs b) ≡ map_values by_bytes zeroed (look_placed placed_values rs b)
+values-decide : (rs : List (Placed Record)) (b : Option (Placed Node))
+    → merges (pile_of L.Attributes None rs b) ≡ map_values by_bytes zeroed (look_placed placed_values rs b)
 unfolding look_placed merged
 values-decide [] None = sym (map-empty by_bytes zeroed)
 values-decide [] (Some n) = merge-alone zeroed (starts value (attributes_at n.place n.held.meta) n.held.meta.attributes)
 values-decide (r ∷ rs) b = go r.held (values-decide rs b)
   where
-    go : (h : Record) → merges (pile_of G.Attributes rs b) ≡ map_values by_bytes zeroed (look_placed placed_values rs b)
-        → merges (record_pile G.Attributes r.place h (pile_of G.Attributes rs b)) ≡ map_values by_bytes zeroed (record_value_starts r.place h (look_placed placed_values rs b))
+    go : (h : Record) → merges (pile_of L.Attributes None rs b) ≡ map_values by_bytes zeroed (look_placed placed_values rs b)
+        → merges (record_pile L.Attributes None r.place h (pile_of L.Attributes None rs b))
+        ≡ map_values by_bytes zeroed (record_value_starts r.place h (look_placed placed_values rs b))
     go tombstone ih = sym (map-empty by_bytes zeroed)
-    go (delta d) ih = alter-decides r.place d.fields d.fields.attributes (pile_of G.Attributes rs b) (look_placed placed_values rs b) ih
+    go (delta d) ih = alter-decides r.place d.fields d.fields.attributes (pile_of L.Attributes None rs b) (look_placed placed_values rs b) ih
 
 -- ---- the rows
 
@@ -144,12 +147,15 @@ rows-zeroed [] = refl
 rows-zeroed (e ∷ l) = rw (rows-zeroed l)
 
 -- What the sources of a stack decide is what its listing shows.
-pub pile-shows : (l : Listing) (rs : List (Placed Record)) (b : Option (Placed Node)) → map plain_row (decisions by_bytes (pile_rows (pile_of (lists_of l) rs b))) ≡ rows_listed l rs b
+pub pile-shows : (l : Listing) (rs : List (Placed Record)) (b : Option (Placed Node))
+    → map plain_row (decisions by_bytes (pile_rows (pile_of l None rs b))) ≡ rows_listed l rs b
 pile-shows L.Entries rs b =
-    rw (pile-merged by_bytes (itself by_bytes) (pile_of G.Entries rs b), entries-decide rs b, map_rows by_bytes inoded (look_placed placed_entries rs b)) (rows-inoded (look_placed placed_entries rs b).rows)
+    rw (pile-merged by_bytes (itself by_bytes) (pile_of L.Entries None rs b), entries-decide rs b, map_rows by_bytes inoded (look_placed placed_entries rs b))
+    (rows-inoded (look_placed placed_entries rs b).rows)
 pile-shows L.Attributes rs b =
-    rw (pile-merged by_bytes (itself by_bytes) (pile_of G.Attributes rs b), values-decide rs b, map_rows by_bytes zeroed (look_placed placed_values rs b)) (rows-zeroed (look_placed placed_values rs b).rows)
+    rw (pile-merged by_bytes (itself by_bytes) (pile_of L.Attributes None rs b), values-decide rs b, map_rows by_bytes zeroed (look_placed placed_values rs b))
+    (rows-zeroed (look_placed placed_values rs b).rows)
 
-module _ {img : List ℕ} {s : InodeLayerStack} (l : Listing) {r : Sources} (g : Gathers img s (lists_of l) r) where
-  pub gathered-rows : decided_rows img r ≡ rows_listed l (records_in img s) (node_in img s)
-  gathered-rows = ap (λ (ss : List (List Decided)). map plain_row (decisions by_bytes ss)) g.are ∙ pile-shows l (records_in img s) (node_in img s)
+pub gathered-rows : {s : Stack} (l : Listing) {r : Sources} → Gathers s l None r → decided_rows s.img.now (listed r) ≡ rows_in l s
+gathered-rows {s} l g =
+    ap (λ (ss : List (List Decided)). map plain_row (decisions by_bytes ss)) g.are ∙ pile-shows l (records_in s.img.now s.places) (node_in s.img.now s.places)

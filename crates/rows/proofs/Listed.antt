@@ -1,28 +1,25 @@
 -- What a listing answers, by the attributes and the rows that a stack shows.
 -- Assumes nothing.
 use Rattle.std.specs.Prelude.{Result, Ok, Err, None, Option, Some}
-use mathlib.Core.Path.{◌≡◌, refl, sym, ◌∙◌}
+use mathlib.Core.Path.{◌≡◌, subst, refl, sym, ◌∙◌}
 use mathlib.Core.Bool.{Bool, true, false, cond}
 use mathlib.Core.List.{List, [], ◌∷◌}
 use Prim.Native.Nat.{ℕ, ◌≤◌}
 use lib.Dec.{ltb}
 use lib.ListN.{length, drop, length-map}
 use lib.Seq.{take-append_seam}
-use denote.Enum.Declared.{tag_of}
-use types.Run.{OneOf, miss}
-use Rattle.deltas.proofs.Others.{not_directory}
+use denote.Enum.Bare.{sameb}
 use Rattle.wire.specs.Parse.{got}
 use Rattle.wire.specs.Orders.{by_number}
 use Rattle.wire.specs.Maps.{get}
 use Rattle.image.specs.Meaning.{Kind, Entries, Attributes, Store, directory, file, symlink, special}
-use Rattle.attrs.specs.Meant.{kind_meant}
-use Rattle.attrs.specs.declared.node.FileType.{FileType}
-use Rattle.attrs.specs.declared.node.FileType.TheVariants as K
-use Rattle.attrs.specs.contracts.node.FileType as type
+use Rattle.image.specs.FileTypes.{kind_meant}
+use Rattle.image.specs.declared.kind.FileType.{FileType}
+use Rattle.image.specs.declared.kind.FileType.TheVariants as K
+use Rattle.image.specs.contracts.kind.FileType as type
 use Rattle.rules.specs.Initial.{usual}
 use Rattle.image.specs.RoundTrip.{read_image}
 use Rattle.survey.specs.Verdict.{number_of}
-use Rattle.survey.specs.declared.batch.InodeLayerStack.{InodeLayerStack}
 use Rattle.survey.specs.declared.refusal.Refusal.{Refusal}
 use Rattle.wire.proofs.Readers.{handed}
 use Rattle.rules.specs.Answers.{Answer, refused, answer, first_of, unless}
@@ -35,25 +32,25 @@ use Rattle.rules.specs.Views.{if_directory, listed, valued, view_at}
 use Rattle.rules.specs.ReadCalls.{Row, map_answer, entry_rows, attribute_rows}
 use Rattle.rules.proofs.PlacedStack.{placed-stack, placed-node}
 use Rattle.rules.proofs.Asked.{over-fine, entry-count, attribute-count}
-use Rattle.stack.specs.Stacks.{StackOf, Opens, shown, records_in, node_in}
-use Rattle.merge.specs.Merges.{merge_rows}
-use Rattle.rows.specs.Listings.{rows_listed}
-use Rattle.rows.specs.Plans.{entry_of, is_directory, is_listed, list_call, room_for, plan_entries, PlansRows, Plans, Fills, Filled}
+use Rattle.stack.specs.InStack.{StackOf, Opens, shown_in}
+use Rattle.stack.specs.declared.stack.Stack.{Stack}
+use Rattle.rows.specs.Listings.{rows_in}
+use Rattle.rows.specs.Plans.{entry_of, is_directory, is_listed, list_call, room_for, plan_rows, plan_entries, PlansRows, Plans, Fills, Filled}
 use Rattle.rows.specs.declared.listing.Entry.{Entry}
 use Rattle.rows.specs.declared.listing.Plan.{Plan}
-use Rattle.rows.specs.declared.listing.Listing.{Listing}
-use Rattle.rows.specs.declared.listing.Listing.TheVariants as L
+use Rattle.gather.specs.declared.gather.Listing.{Listing}
+use Rattle.gather.specs.declared.gather.Listing.TheVariants as L
 use Rattle.stack.proofs.Opening.{opened-refused, opened-store}
 
--- all but a directory
-pub other-type : (k : FileType) → OneOf not_directory (tag_of type.the_type k) → is_directory (kind_meant k) ≡ false
-other-type K.Directory h = absurd (miss not_directory 0 tt h)
-other-type K.RegularFile h = refl
-other-type K.Symlink h = refl
-other-type K.NamedPipe h = refl
-other-type K.CharDevice h = refl
-other-type K.BlockDevice h = refl
-other-type K.Socket h = refl
+-- a directory, told by its tag
+pub directory_type : (t : FileType) → sameb type.the_type t K.Directory ≡ is_directory (kind_meant t)
+directory_type K.Directory = refl
+directory_type K.RegularFile = refl
+directory_type K.Symlink = refl
+directory_type K.NamedPipe = refl
+directory_type K.CharDevice = refl
+directory_type K.BlockDevice = refl
+directory_type K.Socket = refl
 
 -- ---- rows in place of names
 
@@ -83,15 +80,19 @@ module _ (lent : ℕ) (rows : List Row) where
 
 -- ---- the calls
 
-fine-listing : {img : List ℕ} {i : ℕ} {s : InodeLayerStack} (room : ℕ) → StackOf img i s → {st : Store} → length img ≤ 65536 → read_image img ≡ got st [] → (l : Listing)
-    → list_call l img i room ≡ cond (is_listed l (shown (attributes usual i) img s)) (room_for room (rows_listed l (records_in img s) (node_in img s))) (answer None)
+fine-listing : {img : List ℕ} {i : ℕ} {s : Stack} (room : ℕ) → StackOf img i s → {st : Store} → length img ≤ 65536 → read_image img ≡ got st [] → (l : Listing)
+    → list_call l img i room ≡ cond (is_listed l (shown_in (attributes usual i) s)) (room_for room (rows_in l s)) (answer None)
 unfolding reply entry_rows attribute_rows
 fine-listing {img} {i} room k {st} few g L.Entries =
-    rw (k.records_are, k.node_is, placed-stack img i g, placed-node img i g) (over-fine _ img few g ∙ entries-given room (entry_rows img i) (view_at usual st i).attributes (look entries (stack i (layers st)) (get by_number i st.base)) (entry-count img i g))
+    rw (k.image_is, k.records_are, k.node_is, placed-stack img i g, placed-node img i g)
+    (over-fine _ img few g
+    ∙ entries-given room (entry_rows img i) (view_at usual st i).attributes (look entries (stack i (layers st)) (get by_number i st.base)) (entry-count img i g))
 fine-listing {img} {i} room k {st} few g L.Attributes =
-    rw (k.records_are, k.node_is, placed-stack img i g, placed-node img i g) (over-fine _ img few g ∙ names-given room (attribute_rows img i) (view_at usual st i).attributes (look values (stack i (layers st)) (get by_number i st.base)) (attribute-count img i g))
+    rw (k.image_is, k.records_are, k.node_is, placed-stack img i g, placed-node img i g)
+    (over-fine _ img few g
+    ∙ names-given room (attribute_rows img i) (view_at usual st i).attributes (look values (stack i (layers st)) (get by_number i st.base)) (attribute-count img i g))
 
-module _ {img : List ℕ} {i : ℕ} {o : Result InodeLayerStack Refusal} (h : Opens img i o) (room : ℕ) where
+module _ {img : List ℕ} {i : ℕ} {o : Result Stack Refusal} (h : Opens img i o) (room : ℕ) where
   refused-listing : (l : Listing) {f : Refusal} → o ≡ Err f → list_call l img i room ≡ refused (number_of f)
   refused-listing L.Entries d = opened-refused h _ d
   refused-listing L.Attributes d = opened-refused h _ d
@@ -100,8 +101,8 @@ module _ {img : List ℕ} {i : ℕ} {o : Result InodeLayerStack Refusal} (h : Op
   pub listing-refused : (l : Listing) {f : Refusal} {r : Result (Option Plan) Refusal} → o ≡ Err f → r ≡ Err f → Plans img (list_call l img i room) room r
   listing-refused l d e = rw e (record { answers = sym (refused-listing l d); fits = tt })
 
-  module _ {s : InodeLayerStack} (d : o ≡ Ok s) (l : Listing) {a : Option FileAttr} (e : a ≡ shown (attributes usual i) img s) where
-    call-is : list_call l img i room ≡ cond (is_listed l a) (room_for room (rows_listed l (records_in img s) (node_in img s))) (answer None)
+  module _ {s : Stack} (d : o ≡ Ok s) (l : Listing) {a : Option FileAttr} (e : a ≡ shown_in (attributes usual i) s) where
+    call-is : list_call l img i room ≡ cond (is_listed l a) (room_for room (rows_in l s)) (answer None)
     call-is = let v = opened-store h d in let g = rw d at h in rw e (fine-listing room g.stack v.2 v.1 l)
 
     -- then none
@@ -109,12 +110,15 @@ module _ {img : List ℕ} {i : ℕ} {o : Result InodeLayerStack Refusal} (h : Op
     listing_none f = record { answers = rw (call-is, f); fits = tt }
 
     -- last 5, or the rows
-    module _ (t : is_listed l a ≡ true) {w : Result Plan Refusal} (p : PlansRows img (rows_listed l (records_in img s) (node_in img s)) room w) where
+    module _ (t : is_listed l a ≡ true) {w : Result Plan Refusal} (p : PlansRows s.img.now (rows_in l s) room w) where
       pub listing-few : {f : Refusal} {r : Result (Option Plan) Refusal} → w ≡ Err f → r ≡ Err f → Plans img (list_call l img i room) room r
       listing-few x y = let g = rw x at p in rw y (record { answers = rw (call-is, t) g.answers; fits = tt })
 
       pub listing-rows : {q : Plan} → w ≡ Ok q → Plans img (list_call l img i room) room (Ok (Some q))
-      listing-rows x = let g = rw x at p in record { answers = rw (call-is, t) g.answers; fits = g.fits }
+      listing-rows {q} x =
+          let k = (rw d at h).stack.image_is in
+          let g = subst (λ (i : List ℕ). PlansRows i (rows_in l s) room (Ok q)) k (rw x at p) in
+          record { answers = rw (call-is, t) g.answers; fits = g.fits }
 
 -- ---- the rows lent
 
@@ -130,6 +134,10 @@ module _ {img : List ℕ} {a : Answer (Option (List Row))} {room : ℕ} {o : Res
       let g = rw d at h in
       let es = plan_entries img p in
       rw (← g.answers)
-      (record { answers = rw (f.many, f.rows, take-append_seam es (drop (length es) old)); count = f.many ∙ length-map (merge_rows img p.merge) entry_of; rows = f.rows })
+      (record {
+        answers = rw (f.many, f.rows, take-append_seam es (drop (length es) old));
+        count = f.many ∙ length-map (plan_rows img p) entry_of;
+        rows = f.rows;
+      })
 
 pub ruleset fills = (filled-refused, filled_none, filled-all, handed)

@@ -1,6 +1,6 @@
 -- What a listing answers and fills. Document 01: "A listing fills a lent row of entries: start of the name in the image, length, inode."
 -- "Listings: as reads, last 5 if there are fewer rows than entries." "Rows past the last stay."
-use Rattle.std.specs.Prelude.{◌≡◌, Bool, true, false, cond, List, [], ◌++◌, map, ℕ, ◌≤◌, ltb, length, drop, Result, Ok, Err, IfOk, IfSome, None, Option, Some}
+use Rattle.std.specs.Prelude.{◌≡◌, Bool, true, false, cond, List, ◌++◌, map, ℕ, ◌≤◌, ltb, length, drop, Result, Ok, Err, IfOk, IfSome, None, Option, Some}
 use Rattle.rules.specs.Answers.{Answer, refused, answer}
 use Rattle.rules.specs.Changes.{map_if}
 use Rattle.rules.specs.ReadCalls.{Row, map_answer, filled, list_directory, list_xattrs}
@@ -9,9 +9,9 @@ use Rattle.rules.specs.FileAttrs.{FileAttr}
 use Rattle.image.specs.Meaning.{Kind, directory, file, symlink, special}
 use Rattle.survey.specs.declared.refusal.Refusal.{Refusal}
 use Rattle.layers.specs.Answered.{answered, filled_rows}
-use Rattle.merge.specs.Merges.{Ready, row_of_merge, decided_rows, merge_rows}
-use Rattle.rows.specs.declared.listing.Listing.{Listing}
-use Rattle.rows.specs.declared.listing.Listing.TheVariants as L
+use Rattle.merge.specs.Merges.{listed, Ready, decided_rows}
+use Rattle.gather.specs.declared.gather.Listing.{Listing}
+use Rattle.gather.specs.declared.gather.Listing.TheVariants as L
 use Rattle.rows.specs.declared.listing.Entry.{Entry}
 use Rattle.rows.specs.declared.listing.Plan.{Plan}
 
@@ -43,40 +43,29 @@ list_call L.Attributes img i lent = list_xattrs usual img i lent
 abbrev pub room_for : ℕ → List Row → Answer (Option (List Row))
 room_for room l = cond (ltb room (length l)) (refused 5) (answer (Some l))
 
--- ---- a plan: the rows that a listing has left to fill, and how many they are
+-- ---- a plan: the rows of a listing, and how many they are
 
-abbrev pub plan_row : Plan → Entry
-plan_row p = entry_of (row_of_merge p.merge)
+abbrev pub plan_rows : List ℕ → Plan → List Row
+plan_rows img p = decided_rows img (listed p.all)
 
 abbrev pub plan_entries : List ℕ → Plan → List Entry
-plan_entries img p = map entry_of (merge_rows img p.merge)
+plan_entries img p = map entry_of (plan_rows img p)
 
 -- it has as many rows as it says, and there is room for them
 pub record Fits (img : List ℕ) (room : ℕ) (p : Plan) : Type 0 where
-  pub ready : Ready img p.merge.all
-  pub count : length (merge_rows img p.merge) ≡ p.count
+  pub ready : Ready img (listed p.all)
+  pub count : length (plan_rows img p) ≡ p.count
   pub small : p.count ≤ room
 
 -- these are its rows, if there is room for them
 pub record PlansRows (img : List ℕ) (l : List Row) (room : ℕ) (r : Result Plan Refusal) : Type 0 where
-  pub answers : answered (λ p. Some (merge_rows img p.merge)) r ≡ room_for room l
+  pub answers : answered (λ p. Some (plan_rows img p)) r ≡ room_for room l
   pub fits : IfOk r (Fits img room)
 
 -- it answers this, within the room
 pub record Plans (img : List ℕ) (a : Answer (Option (List Row))) (room : ℕ) (r : Result (Option Plan) Refusal) : Type 0 where
-  pub answers : answered (map_if (λ p. merge_rows img p.merge)) r ≡ a
+  pub answers : answered (map_if (plan_rows img)) r ≡ a
   pub fits : IfOk r (λ o. IfSome o (Fits img room))
-
--- no row
-pub record NoRows (p : Plan) : Type 0 where
-  pub none_counted : p.count ≡ 0
-  pub none_left : (img : List ℕ) → merge_rows img p.merge ≡ []
-  pub ready : (img : List ℕ) → Ready img p.merge.all
-
--- one row on
-pub record Advances (img : List ℕ) (p r : Plan) : Type 0 where
-  pub rows : merge_rows img r.merge ≡ decided_rows img p.merge.all
-  pub ready : Ready img r.merge.all
 
 -- the first are these, and the others stay
 pub record Fills (es old : List Entry) (n : ℕ) (new : List Entry) : Type 0 where

@@ -1,38 +1,20 @@
 // Listings: the rows that the sources of a stack decide.
 ghost use Rattle.std.specs.Prelude.{◌≡◌, length};
-ghost use Rattle.stack.specs.Stacks.{Stacked, records_in, node_in};
-ghost use Rattle.merge.specs.Merges.{Ready};
-ghost use Rattle.rows.specs.Listings.{lists_of, rows_listed};
-ghost use Rattle.rows.specs.Plans.{NoRows, PlansRows, Plans, Fits, Advances, Fills, Filled, is_directory, is_listed, list_call, plan_row, plan_entries};
+ghost use Rattle.rows.specs.Listings.{rows_in};
+ghost use Rattle.rows.specs.Plans.{PlansRows, Plans, Fits, Fills, Filled, is_listed, list_call, plan_entries};
 ghost use Rattle.rules.specs.Initial.{usual};
 ghost use Rattle.rules.specs.ReadCalls.{list_directory, list_xattrs};
-ghost use Rattle.attrs.specs.Meant.{kind_meant};
 ghost use Rattle.layers.specs.Attrs.{attr_if};
 
-use attrs::node::{FileAttr, FileType};
-use gather::gather::{Lists, gather_sources};
+use attrs::node::FileAttr;
+use gather::gather::{Listing, gather_sources};
+use image::kind::FileType;
 use layers::attr::shown_attr;
-use merge::merge::{Merge, count_rows, no_sources, settle};
-use merge::source::no_value;
-use stack::stack::open_image;
-use survey::batch::InodeLayerStack;
+use merge::merge::{count_rows, next_given};
+use merge::sources::Sources;
+use stack::open::open_image;
+use stack::stack::Stack;
 use survey::refusal::Refusal;
-
-// The names of a directory's entries, or those of the attributes.
-#[derive(Clone, Copy)]
-pub enum Listing {
-    Entries,
-    Attributes,
-}
-
-fn lists_of(listing: Listing) -> Lists
-    ensures { result ≡ lists_of listing }
-{
-    match listing {
-        Listing::Entries => Lists::Entries,
-        Listing::Attributes => Lists::Attributes,
-    }
-}
 
 // A row of a listing: where the name starts in the image, its length, and the inode; 0 for an attribute.
 #[repr(C)]
@@ -43,76 +25,21 @@ pub struct Entry {
     pub inode: u64,
 }
 
-// The rows of a listing that are left to fill, and how many they are.
+// The rows of a listing, and how many they are.
 #[derive(Clone, Copy)]
 pub struct Plan {
-    pub merge: Merge,
+    pub all: Sources,
     pub count: usize,
 }
 
-// No row is filled.
-fn no_rows() -> Plan
-    ensures { NoRows result }
-{
-    Plan {
-        merge: Merge {
-            all: no_sources(),
-            more: false,
-            start: 0,
-            length: 0,
-            inode: 0,
-            value: no_value(),
-        },
-        count: 0,
-    }
-}
-
 // The rows of a stack, if there is room for them.
-fn plan_rows(
-    img: &[u8],
-    stack: InodeLayerStack,
-    listing: Listing,
-    room: usize,
-) -> Result<Plan, Refusal>
-    requires { Stacked img.now stack }
-    ensures { PlansRows img.now (rows_listed listing (records_in img.now stack) (node_in img.now stack)) room result }
+fn plan_rows(stack: Stack, listing: Listing, room: usize) -> Result<Plan, Refusal>
+    ensures { PlansRows stack.entry.img.now (rows_in listing stack.entry) room result }
 {
-    let all = gather_sources(img, stack, lists_of(listing));
-    match count_rows(img, all, room) {
-        Some(count) => {
-            if count == 0 {
-                return Ok(no_rows());
-            }
-            let merge = settle(img, all);
-            Ok(Plan { merge, count })
-        }
+    let all = gather_sources(stack, listing, None);
+    match count_rows(stack.img, all, room) {
+        Some(count) => Ok(Plan { all, count }),
         None => Err(Refusal::NoRoom),
-    }
-}
-
-// The next row to be filled.
-fn row_of(plan: Plan) -> Entry
-    ensures { result ≡ plan_row plan }
-{
-    let merge = plan.merge;
-    Entry {
-        start: merge.start,
-        length: merge.length,
-        inode: merge.inode,
-    }
-}
-
-// The rows after it.
-fn next_row(img: &[u8], plan: Plan) -> Plan
-    requires { Ready img.now plan.merge.all }
-    ensures { Advances img.now plan result }
-{
-    let merge = plan.merge;
-    let all = merge.all;
-    let count = plan.count;
-    Plan {
-        merge: settle(img, all),
-        count,
     }
 }
 
@@ -121,34 +48,28 @@ fn fill_rows(img: &[u8], plan: Plan, rows: &mut [Entry]) -> usize
     requires { Fits img.now (length rows.old) plan }
     ensures { Fills (plan_entries img.now plan) rows.old result rows.new }
 {
-    let count = plan.count;
-    let mut rest = plan;
-    for row in rows[..count].iter_mut() {
-        *row = row_of(rest);
-        rest = next_row(img, rest);
+    let mut all = plan.all.rows;
+    let sources = &mut all[..plan.all.count];
+    for row in rows[..plan.count].iter_mut() {
+        let next = next_given(img, sources).unwrap();
+        *row = Entry {
+            start: next.name.start,
+            length: next.name.length,
+            inode: next.given.inode,
+        };
     }
-    count
+    plan.count
 }
 
-fn is_directory(kind: FileType) -> bool
-    ensures { result ≡ is_directory (kind_meant kind) }
-{
-    match kind {
-        FileType::Directory => true,
-        _ => false,
-    }
-}
-
-// Whether there is a listing: entries are a directory's, attribute names those of any inode with attributes.
+// Whether there is a listing: entries are a directory's, attribute names those of any inode with attributes. A `match`, as in `gather`.
 fn is_listed(listing: Listing, attr: Option<FileAttr>) -> bool
     ensures { result ≡ is_listed listing (attr_if attr) }
 {
     let Some(shown) = attr else {
         return false;
     };
-    let kind = shown.file_type;
     match listing {
-        Listing::Entries => is_directory(kind),
+        Listing::Entries => shown.file_type == FileType::Directory,
         Listing::Attributes => true,
     }
 }
@@ -163,8 +84,8 @@ fn plan_listing(
     ensures { Plans img.now (list_call listing img.now ino room) room result }
 {
     let stack = open_image(img, ino)?;
-    if is_listed(listing, shown_attr(img, stack, ino)) {
-        let plan = plan_rows(img, stack, listing, room)?;
+    if is_listed(listing, shown_attr(stack, ino)) {
+        let plan = plan_rows(stack, listing, room)?;
         return Ok(Some(plan));
     }
     Ok(None)

@@ -1,16 +1,13 @@
 // The words of a line.
 ghost use Rattle.std.specs.Prelude.{◌≤◌, length};
 
-use std::cmp::Ordering;
-use wire::order::compare_part;
-
 // The word of this number, counted from 0; none is the empty word.
 pub fn word(line: &[u8], number: usize) -> &[u8] {
     line.split(|byte| *byte == b' ').nth(number).unwrap_or(&[])
 }
 
 pub fn same(a: &[u8], b: &[u8]) -> bool {
-    compare_part(a, 0, a.len(), b) == Ordering::Equal
+    a == b
 }
 
 // A decimal number; the largest one where it is larger than that.

@@ -1,5 +1,5 @@
 // Writing answers to standard output. What cannot be written is answered as an error.
-use attrs::node::FileType;
+use image::kind::FileType;
 use std::io;
 use wire::fault::Fault;
 use wire::time::Time;
@@ -64,13 +64,5 @@ pub fn octal(rt: &impl Print, value: u32) -> io::Result<()> {
 }
 
 pub fn letter(rt: &impl Print, kind: FileType) -> io::Result<()> {
-    match kind {
-        FileType::Directory => text(rt, b"d"),
-        FileType::RegularFile => text(rt, b"-"),
-        FileType::Symlink => text(rt, b"l"),
-        FileType::NamedPipe => text(rt, b"p"),
-        FileType::CharDevice => text(rt, b"c"),
-        FileType::BlockDevice => text(rt, b"b"),
-        FileType::Socket => text(rt, b"s"),
-    }
+    text(rt, &[kind.letter()])
 }

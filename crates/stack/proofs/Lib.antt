@@ -2,3 +2,4 @@
 pub mod Opening
 pub mod Walks
 pub mod Naming
+pub mod Asking

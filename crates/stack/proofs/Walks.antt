@@ -10,8 +10,7 @@ use native.Mathlib.Omega.{arith}
 use lib.ListN.{length, drop, get_or, length-take}
 use lib.Seq.{take-suc, get_or-take}
 use Rattle.wire.specs.declared.fault.Fault.{Fault}
-use Rattle.wire.specs.Parse.{got, never-got}
-use Rattle.image.specs.Meaning.{Record}
+use Rattle.image.specs.NodeLayout.{node}
 use Rattle.image.specs.RecordLayout.{layer_record}
 use Rattle.survey.specs.declared.batch.InodeLayerStack.{InodeLayerStack}
 use Rattle.survey.specs.Gathering.{deltas_of}
@@ -22,18 +21,22 @@ use Rattle.nodes.specs.declared.node.Node as N
 use Rattle.deltas.specs.declared.delta.EntryDelta.{EntryDelta}
 use Rattle.nodes.specs.Nodes.{ReadsNode}
 use Rattle.deltas.specs.Deltas.{entry_meant, ReadsEntry}
-use Rattle.stack.specs.Stacks.{AllRead, Stacked, records_under, shown_under, shown, RecordIs, BaseIs, node_meant_if}
+use Rattle.std.specs.declared.ops.ControlFlow.{ControlFlow}
+use Rattle.std.specs.declared.ops.ControlFlow.TheVariants as C
+use Rattle.stack.specs.Stacks.{IsRead, AllRead, Stacked, records_under, shown_under, RecordIs, BaseIs, node_meant_if}
+use Rattle.stack.specs.InStack.{RecordIn, BaseIn, shown_lowest, shown_in}
+use Rattle.stack.specs.Questions.{RecordAnswers}
+use Rattle.stack.specs.declared.stack.Stack.{Stack}
 
 -- ---- what is read at a place
 
-all-at : (img ps : List ℕ) (i : ℕ) → AllRead img ps → i < length ps
-    → (a : Record) × (r : List ℕ) × (layer_record.read (drop (get_or ps i 0) img) ≡ got a r)
+all-at : (img ps : List ℕ) (i : ℕ) → AllRead img ps → i < length ps → IsRead (layer_record.read (drop (get_or ps i 0) img))
 all-at img [] i h l = absurd (omega arith)
 all-at img (p ∷ ps) zero h l = h.0
 all-at img (p ∷ ps) (suc i) h l = all-at img ps i h.1 (omega arith)
 
 module _ {img : List ℕ} {s : InodeLayerStack} (h : Stacked img s) where
-  record-read : (i : ℕ) → i < s.count → (a : Record) × (r : List ℕ) × (layer_record.read (drop (get_or s.deltas i 0) img) ≡ got a r)
+  record-read : (i : ℕ) → i < s.count → IsRead (layer_record.read (drop (get_or s.deltas i 0) img))
   record-read i l = rw (get_or-take s.count s.deltas i 0 l) at (all-at img (deltas_of s) i h.records (rw length-take (omega (arith, h.few, h.wide))))
 
   -- a record of the stack is read whole
@@ -42,7 +45,7 @@ module _ {img : List ℕ} {s : InodeLayerStack} (h : Stacked img s) where
     where
       go : (o : Result (EntryDelta × ℕ) Fault) → ReadsEntry img (get_or s.deltas i 0) o → IsOk o
       go (Ok r) g = refl
-      go (Err f) g = let a = record-read i l in never-got (sym g.reads.same ∙ a.2)
+      go (Err f) g = absurd (rw g.reads.same at (record-read i l))
 
   -- and stands on top of those below it
   pub records-more : (i : ℕ) {e : EntryDelta} → i < s.count → RecordIs img (get_or s.deltas i 0) e
@@ -61,7 +64,7 @@ module _ {img : List ℕ} {s : InodeLayerStack} (h : Stacked img s) where
     where
       go : (o : Result (N.Node × ℕ) Fault) → ReadsNode img p o → IsOk o
       go (Ok r) g = refl
-      go (Err f) g = let a = rw e at h.node in never-got (sym g.reads.same ∙ a.2)
+      go (Err f) g = let a : IsRead (node.read (drop p img)) = rw e at h.node in absurd (rw g.reads.same at a)
 
 -- what was read at a place
 pub record_is : {img : List ℕ} {p end : ℕ} {e : EntryDelta} {o : Result (EntryDelta × ℕ) Fault} → ReadsEntry img p o → o ≡ Ok (e, end) → RecordIs img p e
@@ -87,31 +90,30 @@ shown-base R img s o b = ap R.base (base-meant img s.base o b)
 -- ---- a walk from the top
 
 -- what the stack shows is what its lowest `left` records and its node show
-pub record Walked {X : Type 0} (R : Read X) (img : List ℕ) (s : InodeLayerStack) (left : ℕ) : Type 0 where
-  pub low : left ≤ s.count
-  pub same : shown R img s ≡ shown_under R img s left
+pub record Walked {X : Type 0} (R : Read X) (s : Stack) (left : ℕ) : Type 0 where
+  pub low : left ≤ s.places.count
+  pub same : shown_in R s ≡ shown_lowest R s left
 
-module _ {X : Type 0} (R : Read X) {img : List ℕ} {s : InodeLayerStack} where
-  pub walk_start : Walked R img s s.count
-  walk_start = record { low = omega arith; same = refl }
+module _ {X : Type 0} {R : Read X} {s : Stack} where
+  module _ {left : ℕ} (w : Walked R s left) where
+    module _ (l : 0 < left) {e : EntryDelta} (g : RecordIn s (left - 1) e) where
+      -- the topmost of them, over what is below it
+      walk-down : shown_in R s ≡ R.step (entry_meant s.img.now e) (shown_lowest R s (left - 1))
+      walk-down =
+          let z : left ≡ left - 1 + 1 = omega arith in
+          w.same ∙ ap (λ (n : ℕ). shown_lowest R s n) z ∙ shown-more s.stacked R (left - 1) (omega (arith, w.low)) g
 
-  -- the topmost of them, if there is one
-  pub walk_top : {left : ℕ} → Walked R img s left → 0 < left → shown R img s ≡ shown_under R img s (left - 1 + 1)
-  walk_top {left} w l = let z : left ≡ left - 1 + 1 = omega arith in w.same ∙ ap (λ (n : ℕ). shown_under R img s n) z
+      module _ {A : Type 0} (says : Option A → X) {flow : ControlFlow (Option A) (Unit {0})} (h : RecordAnswers R says (entry_meant s.img.now e) flow) where
+        -- it decides
+        pub walk-decided : {a : Option A} → flow ≡ C.Break a → says a ≡ shown_in R s
+        walk-decided d = sym (walk-down ∙ (rw d at h) _)
 
-  -- else the node
-  pub walk-bottom : {left : ℕ} → Walked R img s left → left ≤ 0 → shown R img s ≡ shown_under R img s 0
-  walk-bottom {left} w l = let z : left ≡ 0 = omega arith in w.same ∙ ap (λ (n : ℕ). shown_under R img s n) z
+        -- or leaves the matter to what is below it
+        pub walk-on : {u : Unit {0}} → flow ≡ C.Continue u → Walked R s (left - 1)
+        walk-on d = record { low = omega (arith, w.low); same = walk-down ∙ (rw d at h) _ }
 
-  -- the topmost of them, over what is below it
-  pub walk-down : {left : ℕ} {e : EntryDelta} → Stacked img s → Walked R img s left → 0 < left → RecordIs img (get_or s.deltas (left - 1) 0) e
-      → shown R img s ≡ R.step (entry_meant img e) (shown_under R img s (left - 1))
-  walk-down {left} h w l g = walk_top w l ∙ shown-more h R (left - 1) (omega (arith, w.low)) g
-
-  -- where it leaves the matter to what is below it
-  pub walk-on : {left : ℕ} {e : EntryDelta} → Stacked img s → Walked R img s left → 0 < left → RecordIs img (get_or s.deltas (left - 1) 0) e
-      → R.step (entry_meant img e) (shown_under R img s (left - 1)) ≡ shown_under R img s (left - 1) → Walked R img s (left - 1)
-  walk-on h w l g e = record { low = omega (arith, w.low); same = walk-down h w l g ∙ e }
-
-  pub walk_end : {left : ℕ} (o : Option Node) → Walked R img s left → left ≤ 0 → BaseIs img s.base o → shown R img s ≡ R.base (node_meant_if img o)
-  walk_end o w l b = walk-bottom w l ∙ shown-base R img s o b
+    -- below them all there is the base
+    pub walk_end : left ≤ 0 → (o : Option Node) → BaseIn s o → {x : X} → x ≡ R.base (node_meant_if s.img.now o) → x ≡ shown_in R s
+    walk_end l o b e =
+        let z : left ≡ 0 = omega arith in
+        e ∙ sym (w.same ∙ ap (λ (n : ℕ). shown_lowest R s n) z ∙ shown-base R s.img.now s.places o b)

@@ -1,32 +1,36 @@
 -- The stack of an inode, as places in the image.
-use Rattle.attrs.specs.declared.node.FileType.{FileType}
-use Rattle.std.specs.Prelude.{◌≡◌, List, [], ◌∷◌, ℕ, ◌≤◌, length, take, drop, Result, Ok, IfOk, None, Option, Some}
-use Rattle.std.specs.Result.{result_err}
-use Rattle.wire.specs.Parse.{got}
+use Rattle.image.specs.declared.kind.FileType.{FileType}
+use Rattle.std.specs.Prelude.{◌≡◌, List, [], ◌∷◌, ℕ, ◌≤◌, length, take, drop, Ok, None, Option, Some}
+use Rattle.std.specs.Coded.{×_prop, le_prop}
+use Rattle.std.proofs.Math.Nat.{ℕ_set}
+use Rattle.wire.specs.Parse.{Parsed, fault, got}
 use Rattle.survey.specs.declared.batch.InodeLayerStack.{InodeLayerStack}
 use Rattle.image.specs.Meaning.{Kind, Node, Record}
 use Rattle.image.specs.NodeLayout.{node}
 use Rattle.image.specs.RecordLayout.{layer_record}
 use Rattle.survey.specs.Gathering.{deltas_of}
-use Rattle.survey.specs.Verdict.{verdict_of}
-use Rattle.survey.specs.declared.refusal.Refusal.{Refusal}
 use Rattle.rules.specs.Starts.{Placed}
-use Rattle.rules.specs.PlacedStacks.{node_place, record_places, records_on, node_at, unplaced, unplaced_node}
+use Rattle.rules.specs.PlacedStacks.{records_on, node_at, unplaced, unplaced_node}
 use Rattle.rules.specs.Reads.{Read, look}
 use Rattle.nodes.specs.declared.node.Node as N
 use Rattle.deltas.specs.declared.delta.EntryDelta.{EntryDelta}
 use Rattle.nodes.specs.Nodes.{node_meant, ReadsNode}
 use Rattle.deltas.specs.Deltas.{ReadsEntry}
-use Rattle.attrs.specs.Meant.{kind_meant}
+use Rattle.image.specs.FileTypes.{kind_meant}
 
--- something is read at each place
+-- something is read
+abbrev pub IsRead : {A : Type 0} → Parsed A → Type 0
+IsRead (fault f) = ⊥
+IsRead (got a r) = Unit {0}
+
+-- and at each place
 abbrev pub AllRead : List ℕ → List ℕ → Type 0
 AllRead img [] = Unit {0}
-AllRead img (p ∷ ps) = ((a : Record) × (r : List ℕ) × (layer_record.read (drop p img) ≡ got a r)) × AllRead img ps
+AllRead img (p ∷ ps) = IsRead (layer_record.read (drop p img)) × AllRead img ps
 
 abbrev pub NodeRead : List ℕ → Option ℕ → Type 0
 NodeRead img None = Unit {0}
-NodeRead img (Some p) = (a : Node) × (r : List ℕ) × (node.read (drop p img) ≡ got a r)
+NodeRead img (Some p) = IsRead (node.read (drop p img))
 
 -- the places of a stack hold a node and records of the image
 pub record Stacked (img : List ℕ) (s : InodeLayerStack) : Type 0 where
@@ -34,6 +38,22 @@ pub record Stacked (img : List ℕ) (s : InodeLayerStack) : Type 0 where
   pub records : AllRead img (deltas_of s)
   pub few : s.count ≤ 17
   pub wide : length s.deltas ≡ 17
+
+-- which can be said in one way alone
+is_read-prop : {A : Type 0} (o : Parsed A) → IsProp (IsRead o)
+is_read-prop (fault f) = hlevel
+is_read-prop (got a r) = hlevel
+
+all_read-prop : (img ps : List ℕ) → IsProp (AllRead img ps)
+all_read-prop img [] = hlevel
+all_read-prop img (p ∷ ps) = ×_prop (is_read-prop (layer_record.read (drop p img))) (all_read-prop img ps)
+
+node_read-prop : (img : List ℕ) (p : Option ℕ) → IsProp (NodeRead img p)
+node_read-prop img None = hlevel
+node_read-prop img (Some p) = is_read-prop (node.read (drop p img))
+
+pub Stacked-prop : (img : List ℕ) (s : InodeLayerStack) → IsProp (Stacked img s)
+Stacked-prop img s = hlevel (le_prop, ℕ_set, all_read-prop, node_read-prop)
 
 -- the lowest i records of a stack, topmost first
 abbrev pub records_under : List ℕ → InodeLayerStack → ℕ → List (Placed Record)
@@ -52,17 +72,6 @@ shown_under R img s i = look R (unplaced (records_under img s i)) (unplaced_node
 
 abbrev pub shown : {X : Type 0} → Read X → List ℕ → InodeLayerStack → X
 shown R img s = shown_under R img s s.count
-
--- the stack of an inode: its node in the base, its record in each batch, its live record
-pub record StackOf (img : List ℕ) (i : ℕ) (s : InodeLayerStack) : Type 0 where
-  pub stacked : Stacked img s
-  pub node_is : s.base ≡ node_place img i
-  pub records_are : deltas_of s ≡ record_places img i
-
--- "Always first: 1, 2": the refusal, or the stack where there is none
-pub record Opens (img : List ℕ) (i : ℕ) (r : Result InodeLayerStack Refusal) : Type 0 where
-  pub verdict : result_err r ≡ verdict_of img
-  pub stack : IfOk r (λ s. StackOf img i s)
 
 -- ---- what stands at the places of a stack, by value
 

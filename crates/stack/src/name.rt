@@ -3,8 +3,8 @@ ghost use Rattle.std.specs.Prelude.{◌≡◌};
 ghost use Rattle.rules.specs.Asks.{bad_name};
 ghost use Rattle.stack.specs.Named.{OpensNamed};
 
-use crate::stack::open_image;
-use survey::batch::InodeLayerStack;
+use crate::open::open_image;
+use crate::stack::Stack;
 use survey::refusal::Refusal;
 
 // A name is from 1 to 255 bytes long.
@@ -18,7 +18,7 @@ pub fn bad_name(name: &[u8]) -> bool
 }
 
 // The image opened for a call that is given a name: refusal 3 comes after 1 and 2.
-pub fn open_named(img: &[u8], ino: u64, name: &[u8]) -> Result<InodeLayerStack, Refusal>
+pub fn open_named<'a>(img: &'a [u8], ino: u64, name: &[u8]) -> Result<Stack<'a>, Refusal>
     ensures { OpensNamed img.now ino name.now result }
 {
     let stack = open_image(img, ino)?;

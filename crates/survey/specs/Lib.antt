@@ -1,4 +1,5 @@
 -- What the one pass answers.
 pub mod Gathering
+pub mod Reasons
 pub mod Survey
 pub mod Verdict

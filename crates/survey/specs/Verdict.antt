@@ -33,11 +33,6 @@ abbrev pub refusal_of : Option Refusal → Option ℕ
 refusal_of None = None
 refusal_of (Some r) = Some (number_of r)
 
--- the same, 0 for none
-abbrev pub refusal_number : Option Refusal → ℕ
-refusal_number None = 0
-refusal_number (Some r) = number_of r
-
 -- both faults are refusal 2 today (document 02, T-09, parts them)
 abbrev pub judge : Parsed Store → Option Refusal
 judge (fault f) = Some D.ImageBroken

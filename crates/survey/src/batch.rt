@@ -1,16 +1,16 @@
 // The batches of the queue, and the records that they hold of one inode.
-ghost use Rattle.std.specs.Prelude.{◌≤◌, ◌≡◌, refl, length};
-ghost use Rattle.wire.specs.Number.{between};
-ghost use Rattle.wire.specs.Reading.{Reads};
+ghost use Rattle.std.specs.Prelude.{◌≤◌, ◌≡◌, length};
 ghost use Rattle.image.specs.Places.{Ends};
 ghost use Rattle.survey.specs.Gathering.{head_rest, Bare, Pushed, Gathers, GathersQueue};
 
-use image::field::{LAST_WORD, pass_number, pass_time};
+use crate::reason::read_reason;
+use image::field::{Field, Moment, Word};
 use passes::inode::{Held, find_inode, inode_after};
 use wire::fault::Fault;
 use wire::number::read_number;
 
 // An inode's node in the base, and its records in the layers that have one: `count` places, the front batch's first.
+// No `Vec`: the project has no heap; 17 places are all that an inode can have.
 #[derive(Clone, Copy)]
 pub struct InodeLayerStack {
     pub base: Option<usize>,
@@ -53,26 +53,15 @@ pub fn pushed(stack: InodeLayerStack, place: Option<usize>) -> InodeLayerStack
     }
 }
 
-// A reason, from 1 to 5.
-pub fn read_reason(img: &[u8], at: usize) -> Result<(u64, usize), Fault>
-    ensures { Reads img.now (between 1 5 refl).read at result }
-{
-    let (reason, next) = read_number(img, at, 5)?;
-    if reason == 0 {
-        return Err(Fault::Malformed);
-    }
-    Ok((reason, next))
-}
-
 // Passes the rest of a batch's head: bytes, operations, reason and commit time.
 #[tactic(auto, using(image::proofs::Passing::passes))]
 fn pass_head_rest(img: &[u8], at: usize) -> Result<usize, Fault>
     ensures { Ends img.now head_rest.read at result }
 {
-    let operations = pass_number(img, at, LAST_WORD)?;
-    let reasoned = pass_number(img, operations, LAST_WORD)?;
+    let operations = Word::pass(img, at)?;
+    let reasoned = Word::pass(img, operations)?;
     let (_, committed) = read_reason(img, reasoned)?;
-    pass_time(img, committed)
+    Moment::pass(img, committed)
 }
 
 // Passes `count` batches, the first of which is at `first`, and gathers the places of the records that they hold of one inode.

@@ -2,5 +2,6 @@
 #![tactic(auto)]
 
 pub mod batch;
+pub mod reason;
 pub mod refusal;
 pub mod store;

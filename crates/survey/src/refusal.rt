@@ -13,7 +13,7 @@ pub enum Refusal {
     ImageBroken = 2,
     // the name is empty, or over 255 bytes
     BadName = 3,
-    // a delta breaks the layout, has bytes left over or is a tombstone; or a time has 1,000,000,000 nanoseconds or more
+    // a delta breaks the layout, has bytes left over or is a tombstone; or a time has 1,000,000,000 nanoseconds or more; or a reason that is none of 1 to 5
     BadArgument = 4,
     // the new image is over 65,536 bytes or over the target, or the rows are more than were lent
     NoRoom = 5,

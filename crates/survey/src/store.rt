@@ -6,7 +6,7 @@ ghost use Rattle.survey.specs.Verdict.{Judges};
 
 use crate::batch::{InodeLayerStack, gather_queue, pushed};
 use crate::refusal::Refusal;
-use image::field::{LAST_WORD, pass_number};
+use image::field::{Field, Word, pass_number};
 use passes::inode::{Held, find_inode, inode_after};
 use wire::fault::Fault;
 
@@ -46,8 +46,8 @@ fn pass_tail(img: &[u8], at: usize, last: Option<u64>) -> Result<usize, Fault>
     ensures { Ends img.now (tail_after last).read at result }
 {
     let (_, bytes) = inode_after(img, at, last)?;
-    let operations = pass_number(img, bytes, LAST_WORD)?;
-    let request = pass_number(img, operations, LAST_WORD)?;
+    let operations = Word::pass(img, bytes)?;
+    let request = Word::pass(img, operations)?;
     pass_number(img, request, 5)
 }
 

@@ -5,11 +5,11 @@ use Rattle.wire.specs.Orders.{by_bytes}
 use Rattle.wire.specs.Maps.{get, meet}
 use Rattle.image.specs.Meaning.{Text, Body, Node, Change, Record, directory, file, symlink, special, tombstone, delta}
 use Rattle.image.specs.declared.name.Under.TheVariants as U
-use Rattle.survey.specs.declared.batch.InodeLayerStack.{InodeLayerStack}
 use Rattle.rules.specs.Reads.{Read, child}
 use Rattle.nodes.specs.Listed.{list_at}
-use Rattle.wire.specs.declared.text.Part.{Part}
-use Rattle.stack.specs.Stacks.{shown_under, shown}
+use Rattle.wire.specs.declared.part.Part.{Part}
+use Rattle.stack.specs.InStack.{shown_lowest, shown_in}
+use Rattle.stack.specs.declared.stack.Stack.{Stack}
 use Rattle.trace.specs.declared.said.Said.{Said}
 use Rattle.trace.specs.declared.said.Said.TheVariants.{Nothing, NoChild, Child}
 
@@ -65,20 +65,20 @@ Speaks (Child i) = Unit {0}
 abbrev pub SaysList : List ℕ → Part → Text → Said → Type 0
 SaysList img p name r = r ≡ entry_says (get by_bytes name (list_at img U.Inode p))
 
-module _ (img : List ℕ) (s : InodeLayerStack) (name : Text) where
+module _ (s : Stack) (name : Text) where
   -- what layer n says
   abbrev pub says_at : ℕ → Said
-  says_at n = shown_under (says name) img s n
+  says_at n = shown_lowest (says name) s n
 
   -- the answer is what record i says; and so the lookup in it and what is below it
   pub record SaysRecord (i : ℕ) (r : Said) : Type 0 where
     pub itself : r ≡ says_at (i + 1)
-    pub looked : shown_under (child name) img s (i + 1) ≡ over r (shown_under (child name) img s i)
+    pub looked : shown_lowest (child name) s (i + 1) ≡ over r (shown_lowest (child name) s i)
 
   -- the same of the base, below which is nothing
   pub record SaysBase (r : Said) : Type 0 where
     pub itself : r ≡ says_at 0
-    pub looked : shown_under (child name) img s 0 ≡ over r None
+    pub looked : shown_lowest (child name) s 0 ≡ over r None
 
   -- below the base there is nothing to ask
   abbrev pub SpeaksAt : ℕ → Type 0
@@ -87,7 +87,7 @@ module _ (img : List ℕ) (s : InodeLayerStack) (name : Text) where
 
   -- the layers above say nothing, so that the lookup is that of the layer and what is below it; and the layer says something, or is the base
   pub record Decides (layer : ℕ) : Type 0 where
-    pub low : layer ≤ s.count
-    pub above : (n : ℕ) → layer < n → n ≤ s.count → says_at n ≡ Nothing
+    pub low : layer ≤ s.places.count
+    pub above : (n : ℕ) → layer < n → n ≤ s.places.count → says_at n ≡ Nothing
     pub speaks : SpeaksAt layer
-    pub looked : shown (child name) img s ≡ shown_under (child name) img s layer
+    pub looked : shown_in (child name) s ≡ shown_lowest (child name) s layer

@@ -1,20 +1,23 @@
 // What one layer of a stack says of a name in a directory, and the layer that decides a lookup.
-ghost use Rattle.std.specs.Prelude.{◌≤◌, ◌<◌};
+ghost use Rattle.std.specs.Prelude.{◌≡◌, ◌<◌};
 ghost use Rattle.image.specs.declared.name.Under.TheVariants as U;
-ghost use Rattle.stack.specs.Stacks.{Stacked};
+ghost use Rattle.deltas.specs.Deltas.{entry_meant};
+ghost use Rattle.stack.specs.Stacks.{node_meant_if};
+ghost use Rattle.stack.specs.Questions.{RecordRead, BaseRead};
 ghost use Rattle.lookup.specs.Search.{IsList};
-ghost use Rattle.trace.specs.Said.{SaysList, SaysRecord, SaysBase, Decides};
+ghost use Rattle.trace.specs.Said.{SaysList, record_says, base_says, SaysRecord, SaysBase, Decides};
 
 use deltas::delta::{EntryDelta, NodeDelta};
+use image::field::Inode;
 use image::name::Under;
 use lookup::search::find_name;
-use nodes::node::NodeKind;
-use stack::stack::{base_node, record_at};
-use survey::batch::InodeLayerStack;
-use wire::number::read_number;
-use wire::text::Part;
+use nodes::field::ReadField;
+use nodes::node::{Node, NodeKind};
+use stack::stack::Stack;
+use wire::part::Part;
 
-// Nothing, so that the layers below are asked; that there is no such child; or its inode.
+// Nothing, so that the layers below are asked; that there is no such child; or its inode. No `ControlFlow<Option<u64>>`: the program shows each
+// of the three in words.
 #[derive(Clone, Copy)]
 pub enum Said {
     Nothing,
@@ -27,60 +30,64 @@ fn entry_in(img: &[u8], list: Part, name: &[u8]) -> Said
     requires { IsList img.now U.Inode list }
     ensures { SaysList img.now list name.now result }
 {
-    let place = find_name(img, list, Under::Inode, name);
-    match place {
+    match find_name(img, list, Under::Inode, name) {
         Some(at) => {
-            let (inode, _) = read_number(img, at, u64::MAX).unwrap();
+            let (inode, _) = Inode::read(img, at).unwrap();
             Said::Child(inode)
         }
         None => Said::Nothing,
     }
 }
 
-// What one record says. Records are counted from the lowest.
-pub fn says_at(img: &[u8], stack: InodeLayerStack, i: usize, name: &[u8]) -> Said
-    requires { Stacked img.now stack × (i < stack.count) }
-    ensures { SaysRecord img.now stack name.now i result }
+// What a record says.
+fn record_in(img: &[u8], entry: EntryDelta, name: &[u8]) -> Said
+    requires { RecordRead img.now entry }
+    ensures { result ≡ record_says name.now (entry_meant img.now entry) }
 {
-    let entry = record_at(img, stack, i);
-    let EntryDelta::Node(delta) = entry else {
+    let EntryDelta::Node(NodeDelta::Directory(directory)) = entry else {
         return Said::NoChild;
     };
-    let NodeDelta::Directory(directory) = delta else {
-        return Said::NoChild;
-    };
-    let added = directory.added;
-    let removed = directory.removed;
-    let place = find_name(img, removed, Under::Nothing, name);
-    match place {
+    match find_name(img, directory.removed, Under::Nothing, name) {
         Some(_) => Said::NoChild,
-        None => entry_in(img, added, name),
+        None => entry_in(img, directory.added, name),
     }
 }
 
-// What the base says.
-pub fn base_says(img: &[u8], stack: InodeLayerStack, name: &[u8]) -> Said
-    requires { Stacked img.now stack }
-    ensures { SaysBase img.now stack name.now result }
+// What a node of the base says, or that there is none.
+fn node_in(img: &[u8], node: Option<Node>, name: &[u8]) -> Said
+    requires { BaseRead img.now node }
+    ensures { result ≡ base_says name.now (node_meant_if img.now node) }
 {
-    let base = base_node(img, stack);
-    let Some(node) = base else {
+    let Some(node) = node else {
         return Said::NoChild;
     };
-    let kind = node.kind;
-    match kind {
+    match node.kind {
         NodeKind::Directory { parent: _, entries } => entry_in(img, entries, name),
         _ => Said::NoChild,
     }
 }
 
-// The layer that decides: the topmost that says something. Record i is layer i + 1, the base layer 0.
-pub fn deciding(img: &[u8], stack: InodeLayerStack, name: &[u8]) -> usize
-    requires { Stacked img.now stack }
-    ensures { Decides img.now stack name.now result }
+// What one record of a stack says. Records are counted from the lowest.
+pub fn says_at(stack: Stack, i: usize, name: &[u8]) -> Said
+    requires { i < stack.places.count }
+    ensures { SaysRecord stack.entry name.now i result }
 {
-    for i in (0..stack.count).rev() {
-        match says_at(img, stack, i, name) {
+    record_in(stack.img, stack.record(i), name)
+}
+
+// What the base says.
+pub fn base_says(stack: Stack, name: &[u8]) -> Said
+    ensures { SaysBase stack.entry name.now result }
+{
+    node_in(stack.img, stack.base(), name)
+}
+
+// The layer that decides: the topmost that says something. Record i is layer i + 1, the base layer 0.
+pub fn deciding(stack: Stack, name: &[u8]) -> usize
+    ensures { Decides stack.entry name.now result }
+{
+    for i in (0..stack.places.count).rev() {
+        match says_at(stack, i, name) {
             Said::Nothing => {}
             Said::NoChild => return i + 1,
             Said::Child(_) => return i + 1,

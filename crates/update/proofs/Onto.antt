@@ -1,6 +1,6 @@
 -- Fields merged into a live delta.
 -- Assumes nothing.
-use Rattle.wire.specs.declared.text.Part.{Part}
+use Rattle.wire.specs.declared.part.Part.{Part}
 use Rattle.std.specs.Prelude.{Result, Ok, Err, None, Option, Some}
 use Rattle.std.specs.Result.{result_unwrap_or}
 use mathlib.Core.Path.{◌≡◌, refl, sym, ap, subst, ◌∙◌}
@@ -10,12 +10,14 @@ use native.Mathlib.Omega.{arith}
 use lib.ListN.{length}
 use Rattle.wire.specs.declared.fault.Fault.{Fault}
 use Rattle.wire.specs.Combinators.{count}
-use Rattle.wire.specs.Number.{number_bytes, number_read, number_to}
+use Rattle.wire.specs.Number.{number_bytes}
 use Rattle.wire.specs.Reading.{Reads, meant}
 use Rattle.image.specs.declared.name.Under.TheVariants as U
-use Rattle.image.specs.Meaning.{Changes as AttrChanges, Fields, Change, Delta, tombstone, delta, kind_number, changed_kind}
+use Rattle.image.specs.Meaning.{Changes as AttrChanges, Kind, Fields, Change, Delta, tombstone, delta, kind_number, changed_kind}
 use Rattle.image.specs.Fits.{FitsRecord}
-use Rattle.image.specs.KindLayout.{code, kind-small}
+use Rattle.image.specs.FileTypes.{kind_meant, code_meant}
+use Rattle.image.specs.KindLayout.{code}
+use Rattle.image.specs.declared.kind.FileType.{FileType}
 use Rattle.image.specs.RecordLayout.{fields, change_part, change_part_of, layer_record}
 use Rattle.nodes.specs.Listed.{list_of, ListedIf}
 use Rattle.nodes.specs.Attrs.{fields_meant, ReadsAttr}
@@ -30,7 +32,7 @@ use Rattle.std.specs.Option.{option_or}
 use Rattle.update.specs.Updates.{merged_delta, Onto}
 use Rattle.overlay.specs.declared.record.NewChange.TheVariants as C
 use Rattle.overlay.specs.declared.record.NewRecord.TheVariants as N
-use Rattle.change.proofs.Sections.{span-part, span-front, span-back, span-reads, value-is}
+use Rattle.change.proofs.Sections.{span-part, span-front, span-back, span-reads, same_Ok}
 use Rattle.meld.proofs.Melding.{changes-written}
 
 -- ---- "field by field"
@@ -75,7 +77,8 @@ module _ (img given : List ℕ) (a b : AttrDelta) where
 abbrev pub changed : Change → List ℕ
 changed c = (change_part (changed_kind c)).write (change_part_of c)
 
-pub delta-bytes : (f : Fields) (c : Change) → layer_record.write (delta (record { fields = f; change = c })) ≡ number_bytes (suc (kind_number (changed_kind c))) ++ (fields.write f ++ changed c)
+pub delta-bytes : (f : Fields) (c : Change)
+    → layer_record.write (delta (record { fields = f; change = c })) ≡ number_bytes (suc (kind_number (changed_kind c))) ++ (fields.write f ++ changed c)
 unfolding layer_record code
 delta-bytes f c = refl
 
@@ -86,35 +89,44 @@ dead-bytes = refl
 abbrev code_of : Delta → ℕ
 code_of d = suc (kind_number (changed_kind d.change))
 
-module _ {img : List ℕ} {at : ℕ} {o : Result (ℕ × ℕ) Fault} (n : Reads img (number_read 7) at o) where
+module _ {img : List ℕ} {at : ℕ} (o : Result (Option FileType × ℕ) Fault) (n : Reads img code.read at (meant code_meant o)) where
   -- the code of a live tombstone
-  dead-code : {after : ℕ} → Spans img at (layer_record.write tombstone) after → (after' : ℕ) × (o ≡ Ok (0, after'))
-  dead-code {after} w = (
-    at + length (number_bytes 0),
-    span-reads (number_to 7 refl) (span-front (number_bytes 0) [] (subst (λ (t : List ℕ). Spans img at t after) dead-bytes w)) (omega arith) n,
-  )
+  dead-code : {after : ℕ} → Spans img at (layer_record.write tombstone) after → meant code_meant o ≡ Ok (None, at + length (number_bytes 0))
+  unfolding code
+  dead-code {after} w = span-reads code (span-front (number_bytes 0) [] (subst (λ (t : List ℕ). Spans img at t after) dead-bytes w)) tt n
 
   module _ (after : ℕ) (d : Delta) (w : Spans img at (layer_record.write (delta d)) after) where
     delta-span : Spans img at (number_bytes (code_of d) ++ (fields.write d.fields ++ changed d.change)) after
     delta-span = subst (λ (t : List ℕ). Spans img at t after) (delta-bytes d.fields d.change) w
 
-    code_read : o ≡ Ok (code_of d, at + length (number_bytes (code_of d)))
-    code_read =
-        span-reads (number_to 7 refl) (span-front (number_bytes (code_of d)) (fields.write d.fields ++ changed d.change) delta-span)
-        (omega (arith, kind-small (changed_kind d.change))) n
+    code_read : meant code_meant o ≡ Ok (Some (changed_kind d.change), at + length (number_bytes (code_of d)))
+    unfolding code
+    code_read = span-reads code (span-front (number_bytes (code_of d)) (fields.write d.fields ++ changed d.change) delta-span) tt n
 
     after-code : Spans img (at + length (number_bytes (code_of d))) (fields.write d.fields ++ changed d.change) after
     after-code = span-back (number_bytes (code_of d)) (fields.write d.fields ++ changed d.change) delta-span
 
-  module _ {x : ℕ × ℕ} (z : x ≡ result_unwrap_or o (0, 0)) where
-    code-is : (after : ℕ) (d : Delta) → Spans img at (layer_record.write (delta d)) after → x ≡ (code_of d, at + length (number_bytes (code_of d)))
-    code-is after d w = value-is (0, 0) (code_read after d w) z
+  module _ {x : Option FileType × ℕ} (z : x ≡ result_unwrap_or o (None, 0)) where
+    -- what was read, as it is meant
+    code_value : {y : Option Kind × ℕ} → meant code_meant o ≡ Ok y → ◌≡◌ {A = Option Kind × ℕ} (code_meant x.0, x.1) y
+    code_value {y} e = go o e z
+      where
+        go : (o : Result (Option FileType × ℕ) Fault) → meant code_meant o ≡ Ok y → x ≡ result_unwrap_or o (None, 0)
+            → ◌≡◌ {A = Option Kind × ℕ} (code_meant x.0, x.1) y
+        go (Ok u) e z = ap (λ (x : Option FileType × ℕ). (code_meant x.0, x.1)) z ∙ same_Ok e
+        go (Err f) e z = let n : ◌≡◌ {A = ℕ} 0 1 = cc in absurd (omega arith)
+
+    code-is : (after : ℕ) (d : Delta) → Spans img at (layer_record.write (delta d)) after → code_meant x.0 ≡ Some (changed_kind d.change)
+    code-is after d w = ap (λ (y : Option Kind × ℕ). y.0) (code_value (code_read after d w))
+
+    code-end : (after : ℕ) (d : Delta) → Spans img at (layer_record.write (delta d)) after → x.1 ≡ at + length (number_bytes (code_of d))
+    code-end after d w = ap (λ (y : Option Kind × ℕ). y.1) (code_value (code_read after d w))
 
     -- "does nothing on a live tombstone"
-    pub onto-dead : {a : AttrDelta} → x.0 ≡ 0 → Onto img at a N.Tombstone
+    pub onto-dead : {a : AttrDelta} → x.0 ≡ None → Onto img at a N.Tombstone
     onto-dead e = record {
       stays = λ after w. refl;
-      merges = λ after d f w. let c : x.0 ≡ code_of d = ap (λ (x : ℕ × ℕ). x.0) (code-is after d w) in absurd (omega (arith, e, c));
+      merges = λ after d f w. let c = rw e at (code-is after d w) in absurd (let n : ◌≡◌ {A = ℕ} 0 1 = cc in omega arith);
     }
 
     module _ {u : Result (AttrDelta × ℕ) Fault} (r : ReadsAttr img x.1 u) where
@@ -122,17 +134,17 @@ module _ {img : List ℕ} {at : ℕ} {o : Result (ℕ × ℕ) Fault} (n : Reads 
         fields_read : meant (fields_meant img) u ≡ Ok (d.fields, at + length (number_bytes (code_of d)) + length (fields.write d.fields))
         unfolding fields
         fields_read =
-            let c : x.1 ≡ at + length (number_bytes (code_of d)) = ap (λ (x : ℕ × ℕ). x.1) (code-is after d w) in
-            span-reads fields (span-front (fields.write d.fields) (changed d.change) (after-code after d w)) f.fields (rw c at r.reads)
+            span-reads fields (span-front (fields.write d.fields) (changed d.change) (after-code after d w)) f.fields
+            (rw (code-end after d w) at r.reads)
 
       -- the fields cannot be read
-      pub onto-nowhere : {a : AttrDelta} {f : Fault} → (x.0 ≡ 0 → ⊥) → u ≡ Err f → Onto img at a N.Tombstone
-      onto-nowhere e d = record {
+      pub onto-nowhere : {a : AttrDelta} {f : Fault} → u ≡ Err f → Onto img at a N.Tombstone
+      onto-nowhere d = record {
         stays = λ after w. refl;
         merges = λ after b f w. absurd (let c = fields_read after b f w in let z : ◌≡◌ {A = ℕ} 0 1 = cc in omega arith);
       }
 
-      module _ {b : AttrDelta} {end : ℕ} (g : u ≡ Ok (b, end)) where
+      module _ {k : FileType} (y : x.0 ≡ Some k) {b : AttrDelta} {end : ℕ} (g : u ≡ Ok (b, end)) where
         module _ (after : ℕ) (d : Delta) (f : FitsRecord (delta d)) (w : Spans img at (layer_record.write (delta d)) after) where
           fields-are : (fields_meant img b ≡ d.fields) × (end ≡ at + length (number_bytes (code_of d)) + length (fields.write d.fields))
           fields-are =
@@ -145,12 +157,13 @@ module _ {img : List ℕ} {at : ℕ} {o : Result (ℕ × ℕ) Fault} (n : Reads 
 
           -- the delta with the fields given over its own
           merged-bytes : (a : AttrDelta) (given : List ℕ) (last : ℕ) → ListedIf given U.Change a.xattrs last
-              → number_bytes x.0 ++ (attr_bytes (attr_over a b) ++ (changes_anew img given a.xattrs b.xattrs ++ between img end after))
+              → number_bytes (suc (kind_number (kind_meant k))) ++ (attr_bytes (attr_over a b) ++ (changes_anew img given a.xattrs b.xattrs ++ between img end after))
               ≡ layer_record.write (merged_delta given a d)
           merged-bytes a given last h =
-              let c : x.0 ≡ code_of d = ap (λ (x : ℕ × ℕ). x.0) (code-is after d w) in
+              let s : code_meant (Some k) ≡ Some (changed_kind d.change) = rw y at (code-is after d w) in
+              let c : kind_meant k ≡ changed_kind d.change = cc in
               let m = changes_anew img given a.xattrs b.xattrs in
-              (λ j. number_bytes (c j) ++ (attr_bytes (attr_over a b) ++ (m ++ change-span j)))
+              (λ j. number_bytes (suc (kind_number (c j))) ++ (attr_bytes (attr_over a b) ++ (m ++ change-span j)))
               ∙ ap (λ (l : List ℕ). number_bytes (code_of d) ++ l) (sym (append_assoc (attr_bytes (attr_over a b)) m (changed d.change)))
               ∙ ap (λ (t : List ℕ). number_bytes (code_of d) ++ (t ++ changed d.change))
               (fields-over-bytes img given a b last end h (rw g at r).listed
@@ -158,12 +171,14 @@ module _ {img : List ℕ} {at : ℕ} {o : Result (ℕ × ℕ) Fault} (n : Reads 
               ∙ sym (delta-bytes (merge_fields (fields_meant given a) d.fields) d.change)
 
         -- "Update merges into a live delta, field by field and attribute by attribute"
-        pub onto-delta : {a m : AttrDelta} → (x.0 ≡ 0 → ⊥) → m ≡ attr_over a b
-            → Onto img at a (N.Updated (record { code = x.0; attr_delta = m; new = a.xattrs; old = b.xattrs; change = C.Kept end }))
-        onto-delta {a} {m} e q = record {
-          stays = λ after w. let c = value-is (0, 0) (dead-code w).1 z in absurd (e (ap (λ (x : ℕ × ℕ). x.0) c));
+        pub onto-delta : {a m : AttrDelta} → m ≡ attr_over a b
+            → Onto img at a (N.Updated (record { kind = k; attr_delta = m; new = a.xattrs; old = b.xattrs; change = C.Kept end }))
+        onto-delta {a} {m} q = record {
+          stays = λ after w.
+              let c : code_meant (Some k) ≡ None = rw y at (ap (λ (y : Option Kind × ℕ). y.0) (code_value (dead-code w))) in
+              absurd (let n : ◌≡◌ {A = ℕ} 0 1 = cc in omega arith);
           merges = λ after d f w. record {
-            new = record { code = x.0; attr_delta = m; new = a.xattrs; old = b.xattrs; change = C.Kept end };
+            new = record { kind = k; attr_delta = m; new = a.xattrs; old = b.xattrs; change = C.Kept end };
             is = refl;
             writes = λ given last h. rw q (merged-bytes after d f w a given last h);
           };

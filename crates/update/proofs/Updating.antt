@@ -1,6 +1,6 @@
 -- Update of one inode's attributes.
 -- Assumes nothing.
-use Rattle.wire.specs.declared.text.Part.{Part}
+use Rattle.wire.specs.declared.part.Part.{Part}
 use Rattle.std.specs.Prelude.{Result, Ok, Err, None, Option, Some}
 use mathlib.Core.Path.{◌≡◌, refl, sym, ap, ◌∙◌}
 use mathlib.Core.List.{List, [], ◌∷◌, ◌++◌, append_assoc}
@@ -14,8 +14,8 @@ use Rattle.wire.specs.Codec.{decode}
 use Rattle.wire.specs.Combinators.{opt_write}
 use Rattle.wire.specs.Number.{number_bytes, groups}
 use Rattle.image.specs.declared.name.Under.TheVariants as U
-use Rattle.survey.specs.declared.batch.InodeLayerStack.{InodeLayerStack}
-use Rattle.image.specs.Meaning.{Kind, Record, Layer, Batch, Store, directory, file, symlink, special, pipe, character, block, socket, tombstone, delta, kind_number, changed_kind}
+use Rattle.stack.specs.declared.stack.Stack.{Stack}
+use Rattle.image.specs.Meaning.{Kind, Record, Layer, Batch, Store, directory, file, symlink, special, tombstone, delta, kind_number, changed_kind}
 use Rattle.image.specs.Fits.{FitsRecord}
 use Rattle.image.specs.FieldLayout.{inode}
 use Rattle.image.specs.RecordLayout.{changes, fields, layer_record}
@@ -24,12 +24,13 @@ use Rattle.image.specs.RoundTrip.{read_image, write_image}
 use Rattle.nodes.specs.Listed.{list_of, ListedIf}
 use Rattle.nodes.specs.Attrs.{fields_meant, ReadsAttr}
 use Rattle.nodes.specs.declared.attr.AttrDelta.{AttrDelta}
-use Rattle.attrs.specs.Meant.{kind_meant}
-use Rattle.attrs.specs.declared.node.FileType.{FileType}
+use Rattle.image.specs.FileTypes.{kind_meant}
+use Rattle.image.specs.declared.kind.FileType.{FileType}
+use Rattle.image.specs.declared.kind.FileType.TheVariants as K
 use Rattle.writers.specs.Writes.{attr_bytes, fields-bytes}
 use Rattle.writers.proofs.Writing.{list_written}
-use Rattle.stack.specs.Stacks.{StackOf, shown}
 use Rattle.stack.specs.Stacks.{type_of}
+use Rattle.stack.specs.InStack.{StackOf, shown_in}
 use Rattle.rules.specs.Initial.{usual}
 use Rattle.rules.specs.Calls.{Call}
 use Rattle.rules.specs.Reads.{type}
@@ -61,19 +62,20 @@ use Rattle.image.proofs.OneForm.{layer_record-one}
 
 -- ---- no live record
 
-only-given : (img given : List ℕ) (x : Option Part) (end : ℕ) → ListedIf given U.Change x end → changes_anew img given x None ≡ opt_write changes (list_of given U.Change x)
+only-given : (img given : List ℕ) (x : Option Part) (end : ℕ) → ListedIf given U.Change x end
+    → changes_anew img given x None ≡ opt_write changes (list_of given U.Change x)
 only-given img given (Some p) end h = list_written U.Change h
 only-given img given None end h = refl
 
-bare-bytes : (k : Kind) → bare_bytes (suc (kind_number k)) ≡ changed (bare_change k)
+bare-bytes : (k : FileType) → bare_bytes k ≡ changed (bare_change (kind_meant k))
 unfolding empty number_bytes groups
-bare-bytes directory = refl
-bare-bytes file = refl
-bare-bytes symlink = refl
-bare-bytes (special pipe) = refl
-bare-bytes (special character) = refl
-bare-bytes (special block) = refl
-bare-bytes (special socket) = refl
+bare-bytes K.Directory = refl
+bare-bytes K.RegularFile = refl
+bare-bytes K.Symlink = refl
+bare-bytes K.NamedPipe = refl
+bare-bytes K.CharDevice = refl
+bare-bytes K.BlockDevice = refl
+bare-bytes K.Socket = refl
 
 bare-kind : (k : Kind) → changed_kind (bare_change k) ≡ k
 bare-kind directory = refl
@@ -82,24 +84,27 @@ bare-kind symlink = refl
 bare-kind (special s) = refl
 
 -- "makes a delta of the type below, device 0"
-new-delta-bytes : (img given : List ℕ) (k : Kind) (a : AttrDelta) (after end : ℕ) → ListedIf given U.Change a.xattrs end
-    → updated_bytes img given (new_delta (suc (kind_number k)) a) after ≡ layer_record.write (bare_delta (fields_meant given a) k)
+new-delta-bytes : (img given : List ℕ) (k : FileType) (a : AttrDelta) (after end : ℕ) → ListedIf given U.Change a.xattrs end
+    → updated_bytes img given (new_delta k a) after ≡ layer_record.write (bare_delta (fields_meant given a) (kind_meant k))
 new-delta-bytes img given k a after end h =
-    let c = number_bytes (suc (kind_number k)) in
+    let c = number_bytes (suc (kind_number (kind_meant k))) in
+    let b = bare_change (kind_meant k) in
     (λ j. c ++ (attr_bytes a ++ (only-given img given a.xattrs end h j ++ bare-bytes k j)))
-    ∙ ap (λ (l : List ℕ). c ++ l) (sym (append_assoc (attr_bytes a) (opt_write changes (list_of given U.Change a.xattrs)) (changed (bare_change k))))
-    ∙ sym (λ j. number_bytes (suc (kind_number (bare-kind k j))) ++ (fields-bytes given a j ++ changed (bare_change k)))
-    ∙ sym (delta-bytes (fields_meant given a) (bare_change k))
+    ∙ ap (λ (l : List ℕ). c ++ l) (sym (append_assoc (attr_bytes a) (opt_write changes (list_of given U.Change a.xattrs)) (changed b)))
+    ∙ sym (λ j. number_bytes (suc (kind_number (bare-kind (kind_meant k) j))) ++ (fields-bytes given a j ++ changed b))
+    ∙ sym (delta-bytes (fields_meant given a) b)
 
 -- a layer that has no record of the inode shows what is below it
-stack-over : (i : ℕ) (bs : List Batch) (live : Layer) (rs : List Record) → stack_on i (with_live bs live) rs ≡ over? (get by_number i live) (stack_on i (batch_layers bs) rs)
+stack-over : (i : ℕ) (bs : List Batch) (live : Layer) (rs : List Record)
+    → stack_on i (with_live bs live) rs ≡ over? (get by_number i live) (stack_on i (batch_layers bs) rs)
 unfolding stack_on
 stack-over i [] live rs = refl
 stack-over i (b ∷ bs) live rs = stack-over i bs live (over? (get by_number i b.records) rs)
 
-type-under : {img : List ℕ} {i : ℕ} {stk : InodeLayerStack} {s : Store} → StackOf img i stk → read_image img ≡ got s [] → get by_number i s.live ≡ None → shown type img stk ≡ type_below s i
-type-under {img} {i} {stk} {s} w e n =
-    rw (w.records_are, w.node_is, placed-stack img i e, placed-node img i e, stack-over i s.batches s.live [], n)
+type-under : {k : Stack} {i : ℕ} {s : Store} → StackOf k.img.now i k → read_image k.img.now ≡ got s []
+    → get by_number i s.live ≡ None → shown_in type k ≡ type_below s i
+type-under {k} {i} {s} w e n =
+    rw (w.records_are, w.node_is, placed-stack k.img.now i e, placed-node k.img.now i e, stack-over i s.batches s.live [], n)
 
 -- ---- the new image
 
@@ -141,45 +146,44 @@ module _ {img : List ℕ} {p : Sections} {s : Store} (w : Stands img p s) {i : �
     held_bytes (x ∷ h) e k t = record-bytes x.1 e k t
 
 -- there is a live record
-pub updates-live : {img : List ℕ} {p : Sections} {stk : InodeLayerStack} {i : ℕ} {a : AttrDelta} {cut : Cut} {at : ℕ} {r : NewRecord} {n : NewLive}
-    → CutsRecords img p.live i cut → cut.place ≡ Some at → Onto img at a r → n ≡ replaced_of cut i r → Updates img p stk i a n
+pub updates-live : {k : Stack} {p : Sections} {i : ℕ} {a : AttrDelta} {cut : Cut} {at : ℕ} {r : NewRecord} {n : NewLive}
+    → CutsRecords k.img.now p.live i cut → cut.place ≡ Some at → Onto k.img.now at a r → n ≡ replaced_of cut i r → Updates k p i a n
 updates-live {i = i} {a} {at = at} {r} c e o q = record {
-  writes = λ s w k given end g.
+  writes = λ s w z given end g.
       held_bytes w a given c at r q o end g (row_here by_number i s.live.rows) (get-here by_number i s.live)
       (rw e at (is_cut w c).holds) (rw e at (is_cut w c).stands);
 }
 
-none-live : {img : List ℕ} {p : Sections} {s : Store} {i : ℕ} {cut : Cut} → Stands img p s → CutsRecords img p.live i cut → cut.place ≡ None → live_of i s ≡ None
+none-live : {img : List ℕ} {p : Sections} {s : Store} {i : ℕ} {cut : Cut} → Stands img p s → CutsRecords img p.live i cut
+    → cut.place ≡ None → live_of i s ≡ None
 none-live {img} {p} {s} {i} w c e = get-here by_number i s.live ∙ go (under_first (row_here by_number i s.live.rows)) (rw e at (is_cut w c).holds)
   where
     go : (o : Option Record) → Holds img layer_record.read None o → o ≡ None
     go None h = refl
     go (Some r) h = absurd h
 
-module _ {img : List ℕ} {p : Sections} {stk : InodeLayerStack} {i : ℕ} {a : AttrDelta} {cut : Cut} {t : Option FileType} where
+module _ {k : Stack} {p : Sections} {i : ℕ} {a : AttrDelta} {cut : Cut} {t : Option FileType} where
   -- "with no live record makes a delta of the type below"
-  pub updates-new : {f : FileType} {code : ℕ} {u : Updated} {n : NewLive} → CutsRecords img p.live i cut → cut.place ≡ None
-      → type_of t ≡ shown type img stk → t ≡ Some f
-      → code ≡ suc (kind_number (kind_meant f)) → u ≡ new_delta code a → n ≡ replaced_of cut i (N.Updated u) → Updates img p stk i a n
-  updates-new {f} {code} {u} c e d z m y q = record {
-    writes = λ s w k given end g.
+  pub updates-new : {f : FileType} {u : Updated} {n : NewLive} → CutsRecords k.img.now p.live i cut → cut.place ≡ None
+      → type_of t ≡ shown_in type k → t ≡ Some f
+      → u ≡ new_delta f a → n ≡ replaced_of cut i (N.Updated u) → Updates k p i a n
+  updates-new {f} {u} c e d z y q = record {
+    writes = λ s w m given end g.
         let v = none-live w c e in
-        let b : type_below s i ≡ Some (kind_meant f) = sym (type-under k w.is v) ∙ sym d ∙ ap type_of z in
-        let x : u ≡ new_delta (suc (kind_number (kind_meant f))) a = y ∙ ap (λ (j : ℕ). new_delta j a) m in
-        new-bytes w a given c (N.Updated (new_delta (suc (kind_number (kind_meant f))) a)) None (bare_delta (fields_meant given a) (kind_meant f))
-        (q ∙ ap (λ (r : Updated). replaced_of cut i (N.Updated r)) x) v (ap (map_if (bare_delta (fields_meant given a))) b)
-        (ap (λ (l : List ℕ). number_bytes i ++ l) (new-delta-bytes img given (kind_meant f) a cut.after end g));
+        let b : type_below s i ≡ Some (kind_meant f) = sym (type-under m w.is v) ∙ sym d ∙ ap type_of z in
+        new-bytes w a given c (N.Updated (new_delta f a)) None (bare_delta (fields_meant given a) (kind_meant f))
+        (q ∙ ap (λ (r : Updated). replaced_of cut i (N.Updated r)) y) v (ap (map_if (bare_delta (fields_meant given a))) b)
+        (ap (λ (l : List ℕ). number_bytes i ++ l) (new-delta-bytes k.img.now given f a cut.after end g));
   }
 
   -- "or does nothing if none exists"
-  pub updates-none : {n : NewLive} → CutsRecords img p.live i cut → cut.place ≡ None → type_of t ≡ shown type img stk → t ≡ None
-      → n ≡ unchanged_of cut i
-      → Updates img p stk i a n
+  pub updates-none : {n : NewLive} → CutsRecords k.img.now p.live i cut → cut.place ≡ None → type_of t ≡ shown_in type k → t ≡ None
+      → n ≡ unchanged_of cut i → Updates k p i a n
   updates-none c e d z q = record {
-    writes = λ s w k given end g.
+    writes = λ s w m given end g.
         let v = none-live w c e in
-        let b : type_below s i ≡ None = sym (type-under k w.is v) ∙ sym d ∙ ap type_of z in
-        ap (one_image img given given p) q
+        let b : type_below s i ≡ None = sym (type-under m w.is v) ∙ sym d ∙ ap type_of z in
+        ap (one_image k.img.now given given p) q
         ∙ unchanged-image w c given given None v
         ∙ ap (λ (x : Option Record). write_image (set_live (put by_number i x s.live) s))
         (sym (ap (new_of given a i s) v ∙ ap (map_if (bare_delta (fields_meant given a))) b));
@@ -204,11 +208,15 @@ module _ {img : List ℕ} {p : Sections} {s : Store} (given : List ℕ) {old : L
   pub update-refused : (i : ℕ) → o ≡ None → Changes (update_attr_delta usual img i given (length old)) old (Err BadArgument) old
   update-refused i e = changes-refused (Call.update i (given_fields given)) w (rw (rw e at r))
 
-  pub update-made : {i : ℕ} {stk : InodeLayerStack} {a : AttrDelta} {n : NewLive} {new : List ℕ} {answer : Result ℕ Refusal} → o ≡ Some a
-      → StackOf img i stk → Updates img p stk i a n
+  pub update-made : {i : ℕ} {k : Stack} {a : AttrDelta} {n : NewLive} {new : List ℕ} {answer : Result ℕ Refusal} → o ≡ Some a
+      → StackOf img i k → Updates k p i a n
       → Changes (if_fits (one_image img given given p n) (length old)) old answer new
       → Changes (update_attr_delta usual img i given (length old)) old answer new
   unfolding result
-  update-made {i} e k u z =
+  update-made {i} {k} {a} {n} e m u z =
       let g = rw e at r in
-      changes-made (Call.update i (given_fields given)) w (rw g.0) (u.writes s w k given g.1.0 g.1.1 ∙ rw g.0) z
+      let y = m.image_is in
+      let h : StackOf k.img.now i k = record { image_is = refl; node_is = rw y m.node_is; records_are = rw y m.records_are } in
+      let b : one_image k.img.now given given p n ≡ write_image (on_live i (updated (fields_meant given a) (type_below s i)) s) =
+      u.writes s (rw y w) h given g.1.0 g.1.1 in
+      changes-made (Call.update i (given_fields given)) w (rw g.0) (rw y at b ∙ rw g.0) z

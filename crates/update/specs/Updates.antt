@@ -3,14 +3,15 @@
 use Rattle.std.specs.Prelude.{◌≡◌, List, ℕ, Option, Some, None}
 use Rattle.image.specs.Meaning.{Delta, Record, Store, tombstone, delta}
 use Rattle.image.specs.Fits.{FitsRecord}
+use Rattle.image.specs.declared.kind.FileType.{FileType}
 use Rattle.image.specs.declared.name.Under.TheVariants as U
-use Rattle.survey.specs.declared.batch.InodeLayerStack.{InodeLayerStack}
 use Rattle.image.specs.RecordLayout.{layer_record}
 use Rattle.image.specs.RoundTrip.{write_image}
 use Rattle.nodes.specs.Listed.{ListedIf}
 use Rattle.nodes.specs.Attrs.{fields_meant}
 use Rattle.nodes.specs.declared.attr.AttrDelta.{AttrDelta}
-use Rattle.stack.specs.Stacks.{StackOf}
+use Rattle.stack.specs.InStack.{StackOf}
+use Rattle.stack.specs.declared.stack.Stack.{Stack}
 use Rattle.rules.specs.Changes.{merge_fields, updated}
 use Rattle.rules.specs.Queue.{on_live, type_below}
 use Rattle.rules.specs.ChangeCalls.{given_fields}
@@ -28,8 +29,8 @@ abbrev pub WholeFields : List ℕ → Option AttrDelta → Type 0
 WholeFields given (Some a) = (given_fields given ≡ Some (fields_meant given a)) × ((end : ℕ) × ListedIf given U.Change a.xattrs end)
 WholeFields given None = given_fields given ≡ None
 
-abbrev pub new_delta : ℕ → AttrDelta → Updated
-new_delta code a = record { code = code; attr_delta = a; new = a.xattrs; old = None; change = K.Bare }
+abbrev pub new_delta : FileType → AttrDelta → Updated
+new_delta kind a = record { kind = kind; attr_delta = a; new = a.xattrs; old = None; change = K.Bare }
 
 -- the fields of a delta, with those given over them
 abbrev pub merged_delta : List ℕ → AttrDelta → Delta → Record
@@ -48,7 +49,7 @@ pub record Onto (img : List ℕ) (at : ℕ) (a : AttrDelta) (r : NewRecord) : Ty
   pub merges : (after : ℕ) (d : Delta) → FitsRecord (delta d) → Spans img at (layer_record.write (delta d)) after → Merges img after a d r
 
 -- the new image is that of the store with the inode updated, whatever bytes hold the fields given
-pub record Updates (img : List ℕ) (p : Sections) (stack : InodeLayerStack) (i : ℕ) (a : AttrDelta) (r : NewLive) : Type 0 where
+pub record Updates (k : Stack) (p : Sections) (i : ℕ) (a : AttrDelta) (r : NewLive) : Type 0 where
   pub writes :
-      (s : Store) → Stands img p s → StackOf img i stack → (given : List ℕ) (end : ℕ) → ListedIf given U.Change a.xattrs end
-      → one_image img given given p r ≡ write_image (on_live i (updated (fields_meant given a) (type_below s i)) s)
+      (s : Store) → Stands k.img.now p s → StackOf k.img.now i k → (given : List ℕ) (end : ℕ) → ListedIf given U.Change a.xattrs end
+      → one_image k.img.now given given p r ≡ write_image (on_live i (updated (fields_meant given a) (type_below s i)) s)

@@ -1,25 +1,21 @@
 // Update of one inode's attributes.
-ghost use Rattle.std.specs.Prelude.{◌≡◌, length, suc};
-ghost use Rattle.image.specs.Meaning.{kind_number};
-ghost use Rattle.attrs.specs.Meant.{kind_meant};
-ghost use Rattle.stack.specs.Stacks.{Stacked};
+ghost use Rattle.std.specs.Prelude.{◌≡◌, length};
 ghost use Rattle.rules.specs.Initial.{usual};
 ghost use Rattle.rules.specs.ChangeCalls.{update_attr_delta};
 ghost use Rattle.change.specs.Changed.{Changes};
 ghost use Rattle.update.specs.Updates.{WholeFields, Onto, Updates, new_delta};
 
-use attrs::attr::type_row;
-use attrs::node::FileType;
 use change::cut::cut_records;
 use change::section::{Sections, open_inode};
 use fields::fields::attr_over;
+use image::kind::{FileType, read_code};
 use nodes::attr::{AttrDelta, read_attr_delta};
 use overlay::record::{NewChange, NewRecord, Updated};
 use overlay::write::{NewLive, replaced, unchanged, write_record};
-use stack::file_type::type_in;
-use survey::batch::InodeLayerStack;
+use stack::file_type::Type;
+use stack::question::decided;
+use stack::stack::Stack;
 use survey::refusal::Refusal;
-use wire::number::read_number;
 
 // Merges the fields given, a mask and what it says is there, into the live delta.
 pub fn update_attr_delta(
@@ -34,7 +30,7 @@ pub fn update_attr_delta(
     let Some(fields) = whole_fields(delta) else {
         return Err(Refusal::BadArgument);
     };
-    let new = with_fields(img, sections, stack, ino, fields);
+    let new = with_fields(stack, sections, ino, fields);
     write_record(img, delta, delta, sections, new, target)
 }
 
@@ -53,24 +49,14 @@ fn whole_fields(bytes: &[u8]) -> Option<AttrDelta>
 }
 
 // The image with the fields merged into the live delta; with no live record, with a delta of the type below.
-fn with_fields(
-    img: &[u8],
-    sections: Sections,
-    stack: InodeLayerStack,
-    ino: u64,
-    fields: AttrDelta,
-) -> NewLive
-    requires { Stacked img.now stack }
-    ensures { Updates img.now sections stack ino fields result }
+fn with_fields(stack: Stack, sections: Sections, ino: u64, fields: AttrDelta) -> NewLive
+    ensures { Updates stack.entry sections ino fields result }
 {
-    let cut = cut_records(img, sections.live, ino);
+    let cut = cut_records(stack.img, sections.live, ino);
     match cut.place {
-        Some(at) => replaced(cut, ino, onto_live(img, at, fields)),
-        None => match type_in(img, stack) {
-            Some(kind) => {
-                let new = new_delta(type_code(kind), fields);
-                replaced(cut, ino, NewRecord::Updated(new))
-            }
+        Some(at) => replaced(cut, ino, onto_live(stack.img, at, fields)),
+        None => match decided(stack, &Type) {
+            Some(kind) => replaced(cut, ino, NewRecord::Updated(new_delta(kind, fields))),
             None => unchanged(cut, ino),
         },
     }
@@ -80,16 +66,15 @@ fn with_fields(
 fn onto_live(img: &[u8], at: usize, fields: AttrDelta) -> NewRecord
     ensures { Onto img.now at fields result }
 {
-    let (code, start) = read_number(img, at, 7).unwrap_or((0, 0));
-    let is_tombstone = code == 0;
-    if is_tombstone {
+    let (code, start) = read_code(img, at).unwrap_or((None, 0));
+    let Some(kind) = code else {
         return NewRecord::Tombstone;
-    }
+    };
     let Ok((below, end)) = read_attr_delta(img, start) else {
         return NewRecord::Tombstone;
     };
     NewRecord::Updated(Updated {
-        code,
+        kind,
         attr_delta: attr_over(fields, below),
         new: fields.xattrs,
         old: below.xattrs,
@@ -97,22 +82,15 @@ fn onto_live(img: &[u8], at: usize, fields: AttrDelta) -> NewRecord
     })
 }
 
-// A delta of this code that has the fields, and changes nothing else.
-fn new_delta(code: u64, fields: AttrDelta) -> Updated
-    ensures { result ≡ new_delta code fields }
+// A delta of this kind that has the fields, and changes nothing else.
+fn new_delta(kind: FileType, fields: AttrDelta) -> Updated
+    ensures { result ≡ new_delta kind fields }
 {
     Updated {
-        code,
+        kind,
         attr_delta: fields,
         new: fields.xattrs,
         old: None,
         change: NewChange::Bare,
     }
-}
-
-// The code of a delta of this type: its number and 1.
-fn type_code(kind: FileType) -> u64
-    ensures { result ≡ suc (kind_number (kind_meant kind)) }
-{
-    (type_row(kind) as u64) + 1
 }

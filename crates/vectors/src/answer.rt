@@ -8,7 +8,7 @@ use survey::batch::InodeLayerStack;
 use survey::store::read_image;
 use wire::number::{put_number, read_number};
 use wire::order::compare_part;
-use wire::part::part;
+use wire::part::Part;
 use wire::text::{put_text, read_text};
 use wire::time::{put_time, read_time};
 
@@ -38,12 +38,20 @@ fn number(rt: &impl Print, line: &[u8]) -> io::Result<()> {
     show::text(rt, b" = ")?;
     let mut input = [0u8; 512];
     let length = bytes(word(line, 2), &mut input);
-    match read_number(part(&input, 0, length), 0, decimal(word(line, 1))) {
+    match read_number(&input[..length], 0, decimal(word(line, 1))) {
         Ok((value, end)) => {
             show::number(rt, value)?;
             let mut output = [0u8; 512];
             let stop = put_number(&mut output, 0, value);
-            show::written(rt, end, part(&output, 0, stop))
+            show::written(
+                rt,
+                end,
+                Part {
+                    start: 0,
+                    length: stop,
+                }
+                .of(&output),
+            )
         }
         Err(why) => show::fault(rt, why),
     }
@@ -55,13 +63,21 @@ fn text(rt: &impl Print, line: &[u8]) -> io::Result<()> {
     let length = bytes(word(line, 3), &mut input);
     let least = decimal(word(line, 1));
     let most = decimal(word(line, 2));
-    match read_text(part(&input, 0, length), 0, least, most) {
+    match read_text(&input[..length], 0, least, most) {
         Ok((text, end)) => {
             show::number(rt, text.start as u64)?;
             show::next(rt, text.length as u64)?;
             let mut output = [0u8; 512];
-            let stop = put_text(&mut output, 0, part(&input, text.start, text.length));
-            show::written(rt, end, part(&output, 0, stop))
+            let stop = put_text(&mut output, 0, text.of(&input));
+            show::written(
+                rt,
+                end,
+                Part {
+                    start: 0,
+                    length: stop,
+                }
+                .of(&output),
+            )
         }
         Err(why) => show::fault(rt, why),
     }
@@ -71,13 +87,21 @@ fn time(rt: &impl Print, line: &[u8]) -> io::Result<()> {
     show::text(rt, b" = ")?;
     let mut input = [0u8; 512];
     let length = bytes(word(line, 1), &mut input);
-    match read_time(part(&input, 0, length), 0) {
+    match read_time(&input[..length], 0) {
         Ok((moment, end)) => {
             show::signed(rt, moment.seconds)?;
             show::next(rt, moment.nanos as u64)?;
             let mut output = [0u8; 512];
             let stop = put_time(&mut output, 0, moment);
-            show::written(rt, end, part(&output, 0, stop))
+            show::written(
+                rt,
+                end,
+                Part {
+                    start: 0,
+                    length: stop,
+                }
+                .of(&output),
+            )
         }
         Err(why) => show::fault(rt, why),
     }
@@ -91,7 +115,8 @@ fn order(rt: &impl Print, line: &[u8]) -> io::Result<()> {
     let start = decimal(word(line, 2)) as usize;
     let length = decimal(word(line, 3)) as usize;
     let count = bytes(word(line, 4), &mut name);
-    match compare_part(part(&image, 0, size), start, length, part(&name, 0, count)) {
+    let part = Part { start, length };
+    match compare_part(&image[..size], part, &name[..count]) {
         Ordering::Less => show::text(rt, b"less"),
         Ordering::Equal => show::text(rt, b"equal"),
         Ordering::Greater => show::text(rt, b"greater"),
@@ -102,7 +127,7 @@ fn image(rt: &impl Print, line: &[u8]) -> io::Result<()> {
     show::text(rt, b" = ")?;
     let mut input = [0u8; 512];
     let length = bytes(word(line, 2), &mut input);
-    match read_image(part(&input, 0, length), decimal(word(line, 1))) {
+    match read_image(&input[..length], decimal(word(line, 1))) {
         Ok(survey) => stack(rt, survey.stack),
         Err(refusal) => print!(rt; "refused {}", refusal.number()),
     }

@@ -6,30 +6,7 @@ use script::line::{bytes, decimal, word};
 use script::show;
 use std::io;
 use survey::refusal::Refusal;
-use wire::part::part;
-
-#[derive(Clone, Copy)]
-pub struct Listed {
-    pub rows: [Entry; 16],
-    pub answer: Result<Option<usize>, Refusal>,
-}
-
-// The first `room` of the rows are lent.
-pub fn directory_rows(img: &[u8], ino: u64, blank: Entry, room: usize) -> Listed
-    requires { room ≤ 16 }
-{
-    let mut rows = [blank; 16];
-    let answer = list_directory(img, ino, &mut rows[..room]);
-    Listed { rows, answer }
-}
-
-pub fn xattr_rows(img: &[u8], ino: u64, blank: Entry, room: usize) -> Listed
-    requires { room ≤ 16 }
-{
-    let mut rows = [blank; 16];
-    let answer = list_xattrs(img, ino, &mut rows[..room]);
-    Listed { rows, answer }
-}
+use wire::part::Part;
 
 // At most as many rows as there are to lend.
 fn room(count: u64) -> usize
@@ -42,23 +19,22 @@ fn room(count: u64) -> usize
 }
 
 pub fn list(rt: &impl Print, line: &[u8]) -> io::Result<()> {
-    let mut image = [0u8; 512];
-    let length = bytes(word(line, 3), &mut image);
-    let blank = Entry {
-        start: 0,
-        length: 0,
-        inode: 0,
-    };
-    let listed = directory_rows(
-        part(&image, 0, length),
-        decimal(word(line, 1)),
-        blank,
-        room(decimal(word(line, 2))),
-    );
-    answered(rt, part(&image, 0, length), listed, true)
+    lend(rt, line, list_directory, true)
 }
 
 pub fn names(rt: &impl Print, line: &[u8]) -> io::Result<()> {
+    lend(rt, line, list_xattrs, false)
+}
+
+// Lends rows to a listing, and writes what it answers, with the inodes where these are asked for.
+fn lend<L: Fn(&[u8], u64, &mut [Entry]) -> Result<Option<usize>, Refusal>>(
+    rt: &impl Print,
+    line: &[u8],
+    listing: L,
+    inodes: bool,
+) -> io::Result<()>
+    requires { L.IsAlwaysCallable listing }
+{
     let mut image = [0u8; 512];
     let length = bytes(word(line, 3), &mut image);
     let blank = Entry {
@@ -66,23 +42,27 @@ pub fn names(rt: &impl Print, line: &[u8]) -> io::Result<()> {
         length: 0,
         inode: 0,
     };
-    let listed = xattr_rows(
-        part(&image, 0, length),
-        decimal(word(line, 1)),
-        blank,
-        room(decimal(word(line, 2))),
-    );
-    answered(rt, part(&image, 0, length), listed, false)
+    let mut rows = [blank; 16];
+    let lent = room(decimal(word(line, 2)));
+    let ino = decimal(word(line, 1));
+    let answer = listing(&image[..length], ino, &mut rows[..lent]);
+    answered(rt, &image[..length], answer, &rows, inodes)
 }
 
-fn answered(rt: &impl Print, img: &[u8], listed: Listed, inodes: bool) -> io::Result<()> {
-    match listed.answer {
+fn answered(
+    rt: &impl Print,
+    img: &[u8],
+    answer: Result<Option<usize>, Refusal>,
+    rows: &[Entry],
+    inodes: bool,
+) -> io::Result<()> {
+    match answer {
         Err(refusal) => show::refused(rt, refusal.number()),
         Ok(None) => show::text(rt, b" = none"),
         Ok(Some(count)) => {
             show::text(rt, b" = ")?;
             show::number(rt, count as u64)?;
-            shown(rt, img, listed, count, inodes)
+            shown(rt, img, rows, count, inodes)
         }
     }
 }
@@ -91,14 +71,17 @@ fn answered(rt: &impl Print, img: &[u8], listed: Listed, inodes: bool) -> io::Re
 fn shown(
     rt: &impl Print,
     img: &[u8],
-    listed: Listed,
+    rows: &[Entry],
     count: usize,
     inodes: bool,
 ) -> io::Result<()> {
-    let rows = listed.rows;
     for row in rows.iter().take(count) {
+        let name = Part {
+            start: row.start,
+            length: row.length,
+        };
         show::text(rt, b" ")?;
-        show::word(rt, part(img, row.start, row.length))?;
+        show::word(rt, name.of(img))?;
         if inodes {
             show::text(rt, b":")?;
             show::number(rt, row.inode)?;

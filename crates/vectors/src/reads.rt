@@ -7,7 +7,6 @@ use script::line::{bytes, decimal, same, word};
 use script::show;
 use std::io;
 use survey::refusal::Refusal;
-use wire::part::part;
 use xattrs::xattr::{get_xattr, has_xattr};
 
 // The answer of a line that asks for a read; of another line nothing.
@@ -46,7 +45,7 @@ pub fn answer(rt: &impl Print, line: &[u8]) -> io::Result<()> {
 fn exists(rt: &impl Print, line: &[u8]) -> io::Result<()> {
     let mut image = [0u8; 512];
     let length = bytes(word(line, 2), &mut image);
-    let found = reads::exists(part(&image, 0, length), decimal(word(line, 1)));
+    let found = reads::exists(&image[..length], decimal(word(line, 1)));
     match found {
         Err(refusal) => show::refused(rt, refusal.number()),
         Ok(false) => show::text(rt, b" = no"),
@@ -57,7 +56,7 @@ fn exists(rt: &impl Print, line: &[u8]) -> io::Result<()> {
 fn file_type(rt: &impl Print, line: &[u8]) -> io::Result<()> {
     let mut image = [0u8; 512];
     let length = bytes(word(line, 2), &mut image);
-    let found = reads::file_type(part(&image, 0, length), decimal(word(line, 1)));
+    let found = reads::file_type(&image[..length], decimal(word(line, 1)));
     match found {
         Err(refusal) => show::refused(rt, refusal.number()),
         Ok(None) => show::text(rt, b" = none"),
@@ -73,18 +72,14 @@ fn child(rt: &impl Print, line: &[u8]) -> io::Result<()> {
     let mut name = [0u8; 512];
     let length = bytes(word(line, 3), &mut image);
     let count = bytes(word(line, 2), &mut name);
-    let found = lookup_child(
-        part(&image, 0, length),
-        decimal(word(line, 1)),
-        part(&name, 0, count),
-    );
+    let found = lookup_child(&image[..length], decimal(word(line, 1)), &name[..count]);
     inode(rt, found)
 }
 
 fn parent(rt: &impl Print, line: &[u8]) -> io::Result<()> {
     let mut image = [0u8; 512];
     let length = bytes(word(line, 2), &mut image);
-    let found = reads::parent_dir_inode(part(&image, 0, length), decimal(word(line, 1)));
+    let found = reads::parent_dir_inode(&image[..length], decimal(word(line, 1)));
     inode(rt, found)
 }
 
@@ -102,7 +97,7 @@ fn inode(rt: &impl Print, found: Result<Option<u64>, Refusal>) -> io::Result<()>
 fn attr(rt: &impl Print, line: &[u8]) -> io::Result<()> {
     let mut image = [0u8; 512];
     let length = bytes(word(line, 2), &mut image);
-    let found = file_attr::attr(part(&image, 0, length), decimal(word(line, 1)));
+    let found = file_attr::attr(&image[..length], decimal(word(line, 1)));
     match found {
         Err(refusal) => show::refused(rt, refusal.number()),
         Ok(None) => show::text(rt, b" = none"),
@@ -135,8 +130,8 @@ fn link(rt: &impl Print, line: &[u8]) -> io::Result<()> {
     let mut image = [0u8; 512];
     let length = bytes(word(line, 2), &mut image);
     let ino = decimal(word(line, 1));
-    let found = reads::has_link(part(&image, 0, length), ino);
-    text(rt, found, reads::read_link(part(&image, 0, length), ino))
+    let found = reads::has_link(&image[..length], ino);
+    text(rt, found, reads::read_link(&image[..length], ino))
 }
 
 fn xattr(rt: &impl Print, line: &[u8]) -> io::Result<()> {
@@ -145,12 +140,8 @@ fn xattr(rt: &impl Print, line: &[u8]) -> io::Result<()> {
     let length = bytes(word(line, 3), &mut image);
     let count = bytes(word(line, 2), &mut name);
     let ino = decimal(word(line, 1));
-    let found = has_xattr(part(&image, 0, length), ino, part(&name, 0, count));
-    text(
-        rt,
-        found,
-        get_xattr(part(&image, 0, length), ino, part(&name, 0, count)),
-    )
+    let found = has_xattr(&image[..length], ino, &name[..count]);
+    text(rt, found, get_xattr(&image[..length], ino, &name[..count]))
 }
 
 // A text, and the answer of the call beside it.

@@ -11,7 +11,7 @@ use script::show;
 use std::io;
 use survey::refusal::Refusal;
 use update::update::update_attr_delta;
-use wire::part::part;
+use wire::part::Part;
 use wire::time::Time;
 
 #[derive(Clone, Copy)]
@@ -114,14 +114,12 @@ fn lend(
     let length = bytes(word(line, last + 1), image);
     let count = bytes(word(line, 2), given);
     let room = room_of(word(line, last), target.len());
-    show_change(
-        rt,
-        line,
-        call,
-        part(image, 0, length),
-        part(given, 0, count),
-        &mut target[..room],
-    )
+    let img = Part { start: 0, length }.of(image);
+    let text = Part {
+        start: 0,
+        length: count,
+    };
+    show_change(rt, line, call, img, text.of(given), &mut target[..room])
 }
 
 // At most as long a target as there is to lend.
@@ -147,7 +145,7 @@ fn show_change(
         Err(refusal) => show::refused(rt, refusal.number()),
         Ok(length) => {
             show::text(rt, b" = image ")?;
-            show::word(rt, part(target, 0, length))
+            show::word(rt, Part { start: 0, length }.of(target))
         }
     }
 }
@@ -181,11 +179,14 @@ fn change(
 
 // Seconds, their sign before them.
 fn seconds(word: &[u8]) -> i64 {
-    let size = decimal(part(word, 1, word.len()));
+    let Some((sign, digits)) = word.split_first() else {
+        return 0;
+    };
+    let size = decimal(digits);
     if 0x7FFF_FFFF_FFFF_FFFF < size {
         return 0;
     }
-    if same(part(word, 0, 1), b"-") {
+    if *sign == b'-' {
         return -(size as i64);
     }
     size as i64

@@ -15,8 +15,7 @@ use Rattle.wire.specs.Reading.{Reads, meant}
 use Rattle.image.specs.Meaning.{Batch}
 use Rattle.image.specs.Fits.{FitsBatch}
 use Rattle.rules.specs.Refusals.{sum_of}
-use Rattle.waiting.specs.Queues.{head_bytes, head_operations, sum_from, Totalled, QueueAt}
-use Rattle.waiting.specs.declared.batch.Queue.{Queue}
+use Rattle.waiting.specs.Queues.{head_bytes, head_operations, sum_from, Totalled}
 use Rattle.writers.specs.Batches.{head_meant}
 use Rattle.writers.specs.declared.batch.BatchHead.{BatchHead}
 use Rattle.change.specs.Batches.{HeadParts, pass_batch}
@@ -25,7 +24,8 @@ use Rattle.change.proofs.Batches.{head_of, batch_bytes, queue_bytes, pass-back}
 -- ---- sums
 
 module _ (f : HeadParts → ℕ) {img : List ℕ} {here : ℕ} where
-  sum-on : {h : HeadParts} {q : ℕ} → Reads img pass_batch here (Ok (h, q)) → (n : ℕ) → 0 < n → sum_from f n (drop here img) ≡ f h + sum_from f (n - 1) (drop q img)
+  sum-on : {h : HeadParts} {q : ℕ} → Reads img pass_batch here (Ok (h, q)) → (n : ℕ) → 0 < n
+      → sum_from f n (drop here img) ≡ f h + sum_from f (n - 1) (drop q img)
   unfolding sum_from
   sum-on r zero l = absurd (omega arith)
   sum-on r (suc n) l = let z : suc n - 1 ≡ n = omega arith in rw (z, r.same)
@@ -46,9 +46,6 @@ pub record Totalling (img : List ℕ) (first n here left b o : ℕ) : Type 0 whe
   pub operations : o + sum_from head_operations left (drop here img) ≡ sum_from head_operations n (drop first img)
   pub few_bytes : b + left * 4294967295 ≤ n * 4294967295
   pub few_operations : o + left * 4294967295 ≤ n * 4294967295
-
-pub totalling-start : {img : List ℕ} {first n : ℕ} → Totalling img first n first n 0 0
-totalling-start = record { bytes = omega arith; operations = omega arith; few_bytes = omega arith; few_operations = omega arith }
 
 module _ {img : List ℕ} {first n here left b o : ℕ} (w : Totalling img first n here left b o) where
   pub totalling-all : left ≤ 0 → Totalled img first n (record { first = first; count = n; bytes = b; operations = o })
@@ -81,24 +78,18 @@ module _ {img : List ℕ} {first n here left b o : ℕ} (w : Totalling img first
           few_operations = omega (arith, w.few_operations);
         }
 
--- the count, and the batches after it
-module _ {img : List ℕ} {at : ℕ} {o : Result (ℕ × ℕ) Fault} {x : ℕ × ℕ} (a : Reads img (number_read 16) at o) (e : x ≡ result_unwrap_or o (0, 0)) where
-  pub few-read : x.0 ≤ 16
-  few-read = rw e (few o a)
-    where
-      few : (o : Result (ℕ × ℕ) Fault) → Reads img (number_read 16) at o → (result_unwrap_or o (0, 0)).0 ≤ 16
-      few (Ok y) a = number-most a refl
-      few (Err f) a = omega arith
-
-  pub queue-read : {r : Queue} → Totalled img x.1 x.0 r → QueueAt img at r
-  queue-read t = record { count = o; reads = a; totals = rw e at t }
-
-pub queue-few : {img : List ℕ} {at : ℕ} {r : Queue} → QueueAt img at r → r.count ≤ 16
-queue-few k = omega (arith, k.totals.counts, few-read {x = result_unwrap_or k.count (0, 0)} k.reads refl)
+-- the count
+pub few-read : {img : List ℕ} {at : ℕ} {o : Result (ℕ × ℕ) Fault} {x : ℕ × ℕ} → Reads img (number_read 16) at o → x ≡ result_unwrap_or o (0, 0) → x.0 ≤ 16
+few-read {img} {at} {o} a e = rw e (few o a)
+  where
+    few : (o : Result (ℕ × ℕ) Fault) → Reads img (number_read 16) at o → (result_unwrap_or o (0, 0)).0 ≤ 16
+    few (Ok y) a = number-most a refl
+    few (Err f) a = omega arith
 
 -- ---- of batches that were written
 
-pub sum-queue : (f : HeadParts → ℕ) (bs : List Batch) (t : List ℕ) → Every FitsBatch bs → sum_from f (length bs) (queue_bytes bs ++ t) ≡ sum_of (λ b. f (head_of b)) bs
+pub sum-queue : (f : HeadParts → ℕ) (bs : List Batch) (t : List ℕ) → Every FitsBatch bs
+    → sum_from f (length bs) (queue_bytes bs ++ t) ≡ sum_of (λ b. f (head_of b)) bs
 unfolding sum_from queue_bytes
 sum-queue f [] t h = refl
 sum-queue f (b ∷ bs) t h =

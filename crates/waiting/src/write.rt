@@ -4,8 +4,8 @@ ghost use Rattle.wire.specs.Put.{Put};
 ghost use Rattle.change.specs.Changed.{Changes, if_fits};
 ghost use Rattle.waiting.specs.NewQueues.{restaged, requeued, refrozen, new_queue};
 
-use change::answer::lacks_room;
 use change::copy::put_between;
+use change::room::write_if_room;
 use change::section::Sections;
 use survey::refusal::Refusal;
 use wire::number::put_number;
@@ -48,13 +48,7 @@ pub fn write_queue(
 ) -> Result<usize, Refusal>
     ensures { Changes (if_fits (new_queue img.now sections new) (length target.old)) target.old result target.new }
 {
-    let mut none = [0u8; 0];
-    let size = put_new_queue(&mut none, 0, img, sections, new);
-    if lacks_room(size, target.len()) {
-        return Err(Refusal::NoRoom);
-    }
-    let end = put_new_queue(target, 0, img, sections, new);
-    Ok(end)
+    write_if_room(target, |buf| put_new_queue(buf, 0, img, sections, new))
 }
 
 // The new image.

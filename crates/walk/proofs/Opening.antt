@@ -8,8 +8,9 @@ use Prim.Native.Nat.{ℕ, zero, suc, ◌+◌, ◌-◌, ◌≤◌, ◌<◌}
 use native.Mathlib.Omega.{arith}
 use native.Mathlib.Numerals.{add-one}
 use lib.Dec.{ltb}
-use lib.ListN.{length, take, drop, get_or}
-use lib.Seq.{take-suc}
+use lib.ListN.{length, take, drop, get_or, set}
+use Rattle.std.proofs.lemmas.List.{length-set, take_more, take_more_set}
+use Rattle.std.proofs.lemmas.List.Elements.{All-nil, All-push}
 use borrow.Author.Tests.{ltb-true, ltb-false}
 use Rattle.std.specs.Result.{result_unwrap_or}
 use Rattle.wire.specs.declared.fault.Fault.{Fault}
@@ -41,12 +42,12 @@ use Rattle.change.proofs.Sections.{span-front, span-back, span-both, ends-past, 
 use Rattle.change.proofs.Queued.{stands-counted, stands-count, stands-queue}
 use Rattle.writers.specs.Batches.{head_meant}
 use Rattle.writers.specs.declared.batch.BatchHead.{BatchHead}
-use Rattle.walk.specs.Runs.{run_at, with_run, of_node, of_record, piece, Row, rows_read, list_rows, run_rows, ListOf}
-use Rattle.walk.specs.Walks.{walk_of, sources_under, Whole}
+use Rattle.walk.specs.Runs.{of_node, of_record, piece, Row, rows_read, list_rows, run_rows, Sound, ListOf}
+use Rattle.walk.specs.Walks.{layers_over, sources_of}
 use Rattle.walk.specs.Opens.{node_rows, record_rows, layers_on, lead, layer_bytes, layer_at, Starts, LayersOf, OpensLayers}
 use Rattle.walk.specs.declared.run.Run.{Run}
-use Rattle.walk.proofs.Running.{runs-length, run-set}
-use Rattle.walk.proofs.Stepping.{sources-set, layer-set}
+use Rattle.walk.specs.declared.walk.Walk.{Walk}
+use Rattle.walk.proofs.Stepping.{over-set}
 
 -- ---- the rows of a list that was written
 
@@ -131,35 +132,31 @@ pub record Given (img : List ℕ) (s : Store) (batches first n tail : ℕ) : Typ
   pub stands : Spans img first (layer_bytes s.batches s.live 0) tail
   pub many : n ≤ length (layers s)
 
-pub record Opening (img : List ℕ) (n batches first end top : ℕ) (runs : List ℕ) (i : ℕ) : Type 0 where
+pub record Opening (img : List ℕ) (n batches first end top : ℕ) (base : Run) (runs : List Run) (i : ℕ) : Type 0 where
   pub low : i ≤ n
-  pub wide : length runs ≡ 72
-  pub opened : (s : Store) (tail : ℕ) → Given img s batches first n tail → LayersOf img s tail i (walk_of runs i) top end
+  pub wide : length runs ≡ 17
+  pub opened : (s : Store) (tail : ℕ) → Given img s batches first n tail → LayersOf img s tail i (record { base = base; layers = runs; count = i }) top end
 
-module _ {img : List ℕ} {base : Run} (o : ListOf img H.Node 0 base) (old : List ℕ) (l : length old ≡ 72) where
-  base-is : run_at (with_run old 0 base) 0 ≡ base
-  base-is = run-set old 0 base (omega arith)
-
-  base-source : sources_under img (with_run old 0 base) 0 ≡ list_rows H.Node img ∷ []
-  unfolding sources_under
-  base-source = rw (base-is, o.are)
-
-  base-whole : Whole img (walk_of (with_run old 0 base) 0)
-  base-whole = record { wide = runs-length old 0 base ∙ l; few = omega arith; base = rw base-is o.sound; sound = λ i h. absurd (omega arith) }
-
-  pub opening-start : {n batches first : ℕ} {runs : List ℕ} → runs ≡ with_run old 0 base → Opening img n batches first first first runs 0
-  unfolding layers_on
-  opening-start e =
-      rw e
-      (record {
-        low = omega arith;
-        wide = base-whole.wide;
-        opened = λ s tail g. record {
-          over = record { ready = record { whole = base-whole; ascend = rw (base-source, g.nodes) (over-ascend s.base []) }; are = rw (base-source, g.nodes) };
+module _ {img : List ℕ} {base : Run} (o : ListOf img H.Node 0 base) where
+  pub opening-start : {runs : List Run} → length runs ≡ 17 → {n batches first : ℕ} → Opening img n batches first first first base runs 0
+  unfolding layers_on layers_over
+  opening-start l = record {
+    low = omega arith;
+    wide = l;
+    opened = λ s tail g.
+        let are = o.are ∙ g.nodes in
+        record {
+          over = record {
+            ready = record {
+              whole = record { few = record { few = omega arith; wide = l }; base = o.sound; layers = All-nil (Sound img H.Record) };
+              ascend = rw are (over-ascend s.base []);
+            };
+            are = rw are;
+          };
           top = λ h. absurd (omega arith);
           rest = g.stands;
         };
-      })
+  }
 
 -- where the records of a layer start
 starts-at : {img : List ℕ} (s : Store) (i : ℕ) {batches here q : ℕ} {o : Result ℕ Fault} → FitsStore s → batches ≡ length s.batches → Starts img here (ltb i batches) o
@@ -180,10 +177,15 @@ starts-at {img} s i {batches} {here} {q} {o} f e t w = go (ltb i batches) refl t
         let y : here ≡ q = omega (arith, z.ends) in
         t.plain refl ∙ ap Ok y
 
-module _ {img : List ℕ} {n batches first end top : ℕ} {runs : List ℕ} {i : ℕ} (g : Opening img n batches first end top runs i) (h : i < n) (k : n ≤ 17)
+module _ {img : List ℕ} {n batches first end top : ℕ} {base : Run} {runs : List Run} {i : ℕ}
+    (g : Opening img n batches first end top base runs i) (h : i < n) (k : n ≤ 17)
     {o : Result ℕ Fault} (t : Starts img end (ltb i batches) o) {at : ℕ} (ta : at ≡ result_unwrap_or o 0) {run : Run} (l : ListOf img H.Record at run)
     {u : Result ℕ Fault} (e : Ends img records.read at u) {to : ℕ} (te : to ≡ result_unwrap_or u 0) where
-  layer-opened : (s : Store) (tail : ℕ) → Given img s batches first n tail → LayersOf img s tail (suc i) (walk_of (with_run runs (suc i) run) (suc i)) at to
+  -- the walk with one layer more
+  abbrev walk : ℕ → Walk
+  walk n = record { base = base; layers = set runs i run; count = n }
+
+  layer-opened : (s : Store) (tail : ℕ) → Given img s batches first n tail → LayersOf img s tail (i + 1) (walk (i + 1)) at to
   layer-opened s tail v =
       let w = g.opened s tail v in
       let bs = s.batches in
@@ -199,23 +201,29 @@ module _ {img : List ℕ} {n batches first end top : ℕ} {runs : List ℕ} {i :
       let first = span-front (records.write x) after b in
       let p = ends-past records {a = x} at (omega (arith, first.within)) fits d e in
       let y : to ≡ at + length (records.write x) = value-is 0 p.1 te ∙ p.2.spans.ends in
-      let rows : run_rows img H.Record run ≡ record_rows x = l.are ∙ rw d (list-are H.Record x (after ++ drop tail img) fits) in
-      let are : sources_under img (with_run runs (suc i) run) (suc i) ≡ layers_on (take (suc i) (layers s)) (node_rows s.base ∷ []) =
-      sources-set img runs i run (omega arith) g.wide ∙ rw (rows, w.over.are, take-suc (layers s) i (empty by_number) lt, layers-snoc) in
+      let rows : run_rows img H.Record run ≡ record_rows x = rw (l.are, d) (list-are H.Record x (after ++ drop tail img) fits) in
+      let wide = g.wide in
+      let lent : take (i + 1) (layers s) ≡ take i (layers s) ++ (x ∷ []) = take_more (layers s) i (empty by_number) lt in
+      let are : sources_of img (walk (i + 1)) ≡ layers_on (take (i + 1) (layers s)) (node_rows s.base ∷ []) =
+      rw (over-set img runs i run (run_rows img H.Node base ∷ []) (omega arith), rows, w.over.are, lent, layers-snoc) in
       record {
         over = record {
           ready = record {
-            whole = layer-set w.over.ready.whole (omega arith) l.sound (suc i) (omega arith) (λ j m d. omega arith);
-            ascend = rw are (over-ascend s.base (take (suc i) (layers s)));
+            whole = record {
+              few = record { few = omega arith; wide = length-set runs i run ∙ wide };
+              base = w.over.ready.whole.base;
+              layers = rw (take_more_set runs i run (omega arith)) (All-push (Sound img H.Record) (take i runs) run w.over.ready.whole.layers l.sound);
+            };
+            ascend = rw are (over-ascend s.base (take (i + 1) (layers s)));
           };
           are = are;
         };
-        top = λ j. let q : suc i - 1 ≡ i = omega arith in rw (q, y) first;
-        rest = rw y (span-back (records.write x) after b);
+        top = λ j. let q : i + 1 - 1 ≡ i = omega arith in rw (q, y) first;
+        rest = rw (y, add-one) (span-back (records.write x) after b);
       }
 
-  pub opening-more : {out : List ℕ} → out ≡ with_run runs (i + 1) run → Opening img n batches first to at out (i + 1)
-  opening-more z = rw (z, add-one) (record { low = omega arith; wide = runs-length runs (suc i) run ∙ g.wide; opened = layer-opened })
+  pub opening-more : Opening img n batches first to at base (set runs i run) (i + 1)
+  opening-more = record { low = omega arith; wide = length-set runs i run ∙ g.wide; opened = layer-opened }
 
 pub layers-start : (bs : List Batch) (live : Layer) → layer_bytes bs live 0 ≡ queue_bytes bs ++ records.write live
 unfolding layer_bytes queue_bytes
@@ -235,8 +243,8 @@ module _ {img : List ℕ} {n : ℕ} {p : Sections} {o : Result (ℕ × ℕ) Faul
         many = m;
       }
 
-  pub opening-all : {end top : ℕ} {runs : List ℕ} {i : ℕ} → Opening img n x.0 x.1 end top runs i → n ≤ i
-      → OpensLayers img p n (record { walk = walk_of runs n; top = top; end = end })
+  pub opening-all : {end top : ℕ} {base : Run} {runs : List Run} {i : ℕ} → Opening img n x.0 x.1 end top base runs i → n ≤ i
+      → OpensLayers img p n (record { walk = record { base = base; layers = runs; count = n }; top = top; end = end })
   opening-all {i = i} g h =
       let low = g.low in
       let y : i ≡ n = omega arith in

@@ -1,36 +1,38 @@
 -- A step of a walk: the least inode, its stack, and the walk past it.
 -- Assumes nothing.
-use Rattle.std.specs.Prelude.{None, Option, Some, is_some, unwrap_or}
+use Rattle.std.specs.Prelude.{None, Option, Some, is_some}
 use mathlib.Core.Path.{◌≡◌, refl, sym, ap, ◌∙◌}
-use mathlib.Core.Bool.{Bool, true, false}
+use mathlib.Core.Bool.{Bool, false}
 use mathlib.Core.List.{List, [], ◌∷◌, ◌++◌, append-nil}
-use Prim.Native.Nat.{ℕ, zero, suc, ◌+◌, ◌-◌, ◌≤◌, ◌<◌}
+use Prim.Native.Nat.{ℕ, zero, suc, ◌+◌, ◌≤◌, ◌<◌}
 use native.Mathlib.Omega.{arith}
-use native.Mathlib.Numerals.{add-one}
-use lib.Dec.{eqb}
-use lib.ListN.{length}
-use borrow.Author.Tests.{eqb-true, eqb-false}
+use lib.ListN.{length, take, drop, get_or, set}
+use Rattle.std.specs.List.{All}
+use Rattle.std.proofs.lemmas.List.{length-append, length-drop, length-set, length-take-le, take_all, take_at, take_more, take_more_set}
+use Rattle.std.proofs.lemmas.List.{get_or-drop, drop-drop, drop-set-lt, at_drop_more, at_drop_all}
+use Rattle.std.proofs.lemmas.List.Elements.{All-nil, All-head, All-tail, All-push, All-get_or}
 use Rattle.std.specs.declared.cmp.Ordering.{Ordering}
 use Rattle.std.specs.declared.cmp.Ordering.TheVariants.{Less, Equal, Greater}
 use Rattle.wire.specs.Orders.{by_number, greater-N, says, Says, cmp_n}
 use Rattle.wire.specs.Maps.{meet}
 use Rattle.image.specs.Meaning.{Node}
-use Rattle.survey.specs.Gathering.{list_if, deltas_of, Pushed}
+use Rattle.survey.specs.Gathering.{list_if, deltas_of, Bare, Pushed}
 use Rattle.passes.specs.declared.inode.Held.{Held}
 use Rattle.passes.specs.declared.inode.Held.TheVariants as H
 use Rattle.survey.specs.declared.batch.InodeLayerStack.{InodeLayerStack}
 use Rattle.rules.specs.Reads.{is_there}
 use Rattle.rules.specs.PlacedStacks.{records_on, unplaced, unplaced_node, node_at}
 use Rattle.rules.proofs.PlacedStack.{records-snoc}
-use Rattle.stack.specs.Stacks.{AllRead, NodeRead}
-use Rattle.merge.specs.Pile.{first_key, pick_key, lower, least_key, head_if, pass_all, answer}
+use Rattle.stack.specs.Stacks.{AllRead, NodeRead, Stacked}
+use Rattle.merge.specs.Pile.{first_key, pick_key, lower, least_key, head_if, pass, pass_all, answer}
 use Rattle.merge.proofs.Piles.{pile-step, pile-end, ascend-pass}
-use Rattle.walk.specs.Runs.{run_at, with_run, Piece, Row, rows_left, run_rows, Sound, RowsOf, Has}
-use Rattle.walk.specs.Walks.{Pieces, or_nothing, laying, top_of, walk_of, sources_under, sources_of, stacks_left, pieces_in, Whole, Ready, key_of, Lower, Least, NodeEnds, Taken, stacks_if, Steps}
+use Rattle.walk.specs.Runs.{Piece, Row, rows_left, run_rows, Sound, piece_at, EndsAt, Moved}
+use Rattle.walk.specs.Walks.{Pieces, or_nothing, laying, top_of, layers_over, sources_of, pieces_at, Whole, Ready, key_of, Lower, Least, Taken, Steps}
 use Rattle.walk.specs.declared.run.Run.{Run}
+use Rattle.stack.specs.declared.stack.Stack.{Stack}
 use Rattle.walk.specs.declared.walk.Walk.{Walk}
 use Rattle.walk.specs.declared.walk.Step.{Step}
-use Rattle.walk.proofs.Running.{EndsAt, runs-length, run-set, run-kept, piece_at, ReadAt, Moved, moved_here, moved_other, has-head}
+use Rattle.walk.proofs.Running.{has-head}
 
 -- ---- the lesser of two inodes
 
@@ -62,18 +64,13 @@ module _ {best : Option ℕ} {r : Run} where
 
 pub ruleset lowers = (lower-none, lower-kept, lower-taken, lower-first)
 
--- ---- the rows of runs in an array
+-- ---- the rows of layers
 
-sources-kept : (img l out : List ℕ) (i : ℕ) → ((j : ℕ) → j ≤ i → run_at out j ≡ run_at l j) → sources_under img out i ≡ sources_under img l i
-unfolding sources_under
-sources-kept img l out zero h = rw (h 0 (omega arith))
-sources-kept img l out (suc i) h = rw (h (suc i) (omega arith), sources-kept img l out i (λ j k. h j (omega arith)))
-
--- one layer more
-pub sources-set : (img l : List ℕ) (i : ℕ) (x : Run) → i < 17 → length l ≡ 72 → sources_under img (with_run l (suc i) x) (suc i) ≡ run_rows img H.Record x ∷ sources_under img l i
-unfolding sources_under
-sources-set img l i x h k =
-    rw (run-set l (suc i) x (omega arith), sources-kept img l (with_run l (suc i) x) i (λ j m. run-kept l (suc i) x j (λ e. omega arith)))
+pub over-snoc : (img : List ℕ) (rs : List Run) (r : Run) (ss : List (List Row))
+    → layers_over img (rs ++ (r ∷ [])) ss ≡ run_rows img H.Record r ∷ layers_over img rs ss
+unfolding layers_over
+over-snoc img [] r ss = refl
+over-snoc img (x ∷ rs) r ss = over-snoc img rs r (run_rows img H.Record x ∷ ss)
 
 -- ---- the least inode
 
@@ -84,178 +81,195 @@ first_key_lem img h r s = go r.left refl
     go zero e = refl
     go (suc m) e = rw (s.reads (λ z. absurd (omega arith))).1
 
-pub record Leasting (l : List ℕ) (n i : ℕ) (best : Option ℕ) : Type 0 where
-  pub low : i ≤ n
-  pub is : (img : List ℕ) → Whole img (walk_of l n) → least_key by_number (sources_under img l i) ≡ best
+-- the least of some runs and of what is beneath them
+unfoldable pub lowest : List Run → Option ℕ → Option ℕ
+lowest [] best = best
+lowest (r ∷ rs) best = lowest rs (lower by_number (key_of r r.left) best)
 
-module _ {l : List ℕ} {n : ℕ} where
-  pub leasting-start : {r : Run} {best : Option ℕ} → r ≡ run_at l 0 → Lower None r best → Leasting l n 0 best
-  unfolding least_key sources_under
-  leasting-start e o = record { low = omega arith; is = λ img h. rw (first_key_lem img H.Node (run_at l 0) h.base) (sym (rw e at o.is)) }
+lowest-least : (img : List ℕ) (rs : List Run) (ss : List (List Row)) → All (Sound img H.Record) rs
+    → least_key by_number (layers_over img rs ss) ≡ lowest rs (least_key by_number ss)
+unfolding layers_over lowest least_key
+lowest-least img [] ss a = refl
+lowest-least img (r ∷ rs) ss a =
+    lowest-least img rs (run_rows img H.Record r ∷ ss) (All-tail (Sound img H.Record) r rs a)
+    ∙ rw (first_key_lem img H.Record r (All-head (Sound img H.Record) r rs a))
 
-  module _ {i : ℕ} {best : Option ℕ} (g : Leasting l n i best) where
-    pub leasting-more : i < n → {r : Run} {out : Option ℕ} → r ≡ run_at l (i + 1) → Lower best r out → Leasting l n (i + 1) out
-    unfolding least_key sources_under
-    leasting-more h e o = record {
-      low = omega arith;
-      is = λ img w. rw (add-one, first_key_lem img H.Record (run_at l (suc i)) (w.sound i h), g.is img w) (sym (rw (e, add-one) at o.is));
-    }
+module _ (rs : List Run) (first : Option ℕ) {i : ℕ} {best : Option ℕ} where
+  -- with the run at i
+  pub lowest-more : i < length rs → lowest (drop i rs) best ≡ lowest rs first → (d : Run) {out : Option ℕ} → Lower best (get_or rs i d) out
+      → lowest (drop (i + 1) rs) out ≡ lowest rs first
+  unfolding lowest
+  lowest-more l e d o = rw o.is (sym (at_drop_more (λ (xs : List Run). lowest xs best) rs i d l) ∙ e)
 
-    pub leasting-all : n ≤ i → Least (walk_of l n) best
-    leasting-all k = let low = g.low in let z : i ≡ n = omega arith in record { is = λ img h. rw z at (g.is img h) }
+  pub lowest-last : length rs ≤ i → lowest (drop i rs) best ≡ lowest rs first → best ≡ lowest rs first
+  unfolding lowest
+  lowest-last l e = sym (at_drop_all (λ (xs : List Run). lowest xs best) rs i l) ∙ e
 
--- ---- a walk with one run anew
-
-base-set : {img : List ℕ} {w : Walk} {x : Run} → Whole img w → Sound img H.Node x → Whole img (walk_of (with_run w.runs 0 x) w.count)
-base-set {img} {w} {x} h s = let wide = h.wide in record {
-  wide = runs-length w.runs 0 x ∙ wide;
-  few = h.few;
-  base = rw (run-set w.runs 0 x (omega arith)) s;
-  sound = λ i l. rw (run-kept w.runs 0 x (suc i) (λ e. omega arith)) (h.sound i l);
+pub least-all : {w : Walk} {best out : Option ℕ} → Lower None w.base best → out ≡ lowest (take w.count w.layers) best → Least w out
+unfolding least_key
+least-all {w} {best} {out} b o = record {
+  is = λ img h. lowest-least img (take w.count w.layers) (run_rows img H.Node w.base ∷ []) h.layers
+      ∙ rw (first_key_lem img H.Node w.base h.base, ← b.is) (sym o);
 }
-
-pub layer-set : {img : List ℕ} {w : Walk} {i : ℕ} {x : Run} → Whole img w → i < 17 → Sound img H.Record x → (n : ℕ) → n ≤ 17
-    → ((j : ℕ) → j < n → (j ≡ i → ⊥) → j < w.count) → Whole img (walk_of (with_run w.runs (suc i) x) n)
-layer-set {img} {w} {i} {x} h k s n few low = let wide = h.wide in record {
-  wide = runs-length w.runs (suc i) x ∙ wide;
-  few = few;
-  base = rw (run-kept w.runs (suc i) x 0 (λ e. omega arith)) h.base;
-  sound = λ j l. go j l (eqb j i) refl;
-}
-  where
-    go : (j : ℕ) → j < n → (b : Bool) → eqb j i ≡ b → Sound img H.Record (run_at (with_run w.runs (suc i) x) (suc j))
-    go j l true e = let wide = h.wide in rw (eqb-true j i e, run-set w.runs (suc i) x (omega arith)) s
-    go j l false e = let d = eqb-false j i e in rw (run-kept w.runs (suc i) x (suc j) (λ z. d (omega arith))) (h.sound j (low j l d))
 
 -- ---- the stack of an inode
 
-node-pieces : (img : List ℕ) (k : ℕ) (place : Option ℕ) → ReadAt img H.Node place
+node-pieces : (img : List ℕ) (k : ℕ) (place : Option ℕ) (e : ℕ) → EndsAt img H.Node place e
     → ◌≡◌ {A = Pieces} ([], unplaced_node (node_at img place)) (or_nothing (meet (laying k) (piece_at img H.Node place) None))
-node-pieces img k None r = refl
-node-pieces img k (Some p) r = rw r.2
+node-pieces img k None e r = refl
+node-pieces img k (Some p) e r = rw r.1
 
 -- a record more, if there is one
-record-pieces : (img : List ℕ) (k : ℕ) (ps : List ℕ) (place : Option ℕ) (b : Option Node) (o : Option Pieces) → ReadAt img H.Record place
+record-pieces : (img : List ℕ) (k : ℕ) (ps : List ℕ) (place : Option ℕ) (e : ℕ) (b : Option Node) (o : Option Pieces) → EndsAt img H.Record place e
     → ◌≡◌ {A = Pieces} (unplaced (records_on img ps []), b) (or_nothing o)
     → ◌≡◌ {A = Pieces} (unplaced (records_on img (ps ++ list_if place) []), b) (or_nothing (meet (laying k) (piece_at img H.Record place) o))
-record-pieces img k ps None b o r e = rw append-nil e
-record-pieces img k ps (Some p) b o r e = rw (records-snoc, r.2, ← e)
+record-pieces img k ps None n b o r e = rw append-nil e
+record-pieces img k ps (Some p) n b o r e = rw (records-snoc, r.1, ← e)
 
-read-node : (img : List ℕ) (place : Option ℕ) → ReadAt img H.Node place → NodeRead img place
-read-node img None r = tt
-read-node img (Some p) r = r
+read-node : (img : List ℕ) (place : Option ℕ) (e : ℕ) → EndsAt img H.Node place e → NodeRead img place
+read-node img None e r = tt
+read-node img (Some p) e r = rw r.1 tt
 
-read_more : (img ps : List ℕ) (place : Option ℕ) → AllRead img ps → ReadAt img H.Record place → AllRead img (ps ++ list_if place)
-read_more img [] None h r = tt
-read_more img [] (Some p) h r = (r, tt)
-read_more img (q ∷ ps) None h r = (h.0, read_more img ps None h.1 r)
-read_more img (q ∷ ps) (Some p) h r = (h.0, read_more img ps (Some p) h.1 r)
+read_more : (img ps : List ℕ) (place : Option ℕ) (e : ℕ) → AllRead img ps → EndsAt img H.Record place e → AllRead img (ps ++ list_if place)
+read_more img [] None e h r = tt
+read_more img [] (Some p) e h r = (rw r.1 tt, tt)
+read_more img (q ∷ ps) None e h r = (h.0, read_more img ps None e h.1 r)
+read_more img (q ∷ ps) (Some p) e h r = (h.0, read_more img ps (Some p) e h.1 r)
 
--- the base and the lowest i of the layers in an array are past the inode k, and the others are not moved
-pub record Taking (img l : List ℕ) (k : ℕ) (out : List ℕ) (stack : InodeLayerStack) (b : Bool) (i : ℕ) : Type 0 where
-  ahead : (j : ℕ) → i < j → run_at out j ≡ run_at l j
-  rest : sources_under img out i ≡ pass_all by_number k (sources_under img l i)
-  node : NodeRead img stack.base
-  records : AllRead img (deltas_of stack)
-  pieces : pieces_in img stack ≡ or_nothing (answer by_number laying k (sources_under img l i))
-  top : b ≡ is_there (head_if by_number k (top_of (sources_under img l i)))
+-- the rows of a base and of the lowest i of the layers rs over it
+abbrev pub sources_to : List ℕ → Run → List Run → ℕ → List (List Row)
+sources_to img base rs i = layers_over img (take i rs) (run_rows img H.Node base ∷ [])
 
--- where the node ends
-node-ends : (img : List ℕ) (o : Option ℕ) (e : ℕ) → EndsAt img H.Node o e → NodeEnds img o e
-node-ends img None e h = tt
-node-ends img (Some p) e h = h
+-- of the layers rs over a base, the lowest i are past the inode k, and the others are not moved
+pub record Taking (img : List ℕ) (k : ℕ) (old : Run) (place : Option ℕ) (rs ns : List Run) (places : InodeLayerStack) (b : Bool) (i : ℕ) : Type 0 where
+  pub many : length ns ≡ length rs
+  pub ahead : drop i ns ≡ drop i rs
+  pub sound : All (Sound img H.Record) (take i ns)
+  pub rest : layers_over img (take i ns) (pass by_number k (run_rows img H.Node old) ∷ []) ≡ pass_all by_number k (sources_to img old rs i)
+  pub base : places.base ≡ place
+  pub records : AllRead img (deltas_of places)
+  pub few : places.count ≤ i
+  pub wide : length places.deltas ≡ 17
+  pub pieces : pieces_at img places ≡ or_nothing (answer by_number laying k (sources_to img old rs i))
+  pub top : b ≡ is_there (head_if by_number k (top_of (sources_to img old rs i)))
 
--- the loop, from what is in hand where it starts
-pub record Layering (img : List ℕ) (n k : ℕ) (l₀ : List ℕ) (stack₀ : InodeLayerStack) (b₀ : Bool) (l : List ℕ) (stack : InodeLayerStack) (b : Bool) (i : ℕ) : Type 0 where
-  pub low : i ≤ n
-  pub whole : Whole img (walk_of l n)
-  pub few : stack.count ≤ i
-  pub wide : length stack.deltas ≡ 17
-  pub base : stack.base ≡ stack₀.base
-  pub taken : (from : List ℕ) → Taking img from k l₀ stack₀ b₀ 0 → Taking img from k l stack b i
+module _ {img : List ℕ} {k : ℕ} {old new : Run} {place : Option ℕ} (m : Moved img H.Node old k place new) where
+  pub taking-start : {places : InodeLayerStack} → Bare place places → {b : Bool} → b ≡ is_some place → (rs : List Run)
+      → Taking img k old places.base rs rs places b 0
+  unfolding layers_over pass_all answer records_on
+  taking-start {places} b e rs = record {
+    many = refl;
+    ahead = refl;
+    sound = All-nil (Sound img H.Record);
+    rest = refl;
+    base = refl;
+    records = rw b.few tt;
+    few = rw b.few (omega arith);
+    wide = b.wide;
+    pieces = rw (b.few, b.base_kept, m.head) (node-pieces img k place old.next m.ends);
+    top = e ∙ has-head m;
+  }
 
-module _ {img : List ℕ} {w : Walk} (h : Whole img w) where
-  pub base-sound : {base : Run} → base ≡ run_at w.runs 0 → Sound img H.Node base
-  base-sound z = rw z h.base
+-- with one layer more, as it was and as it is
+over_more : (img : List ℕ) (rs : List Run) (i : ℕ) (d : Run) (ss : List (List Row)) → i < length rs
+    → layers_over img (take (i + 1) rs) ss ≡ run_rows img H.Record (get_or rs i d) ∷ layers_over img (take i rs) ss
+over_more img rs i d ss l = rw (take_more rs i d l) (over-snoc img (take i rs) (get_or rs i d) ss)
 
-  module _ {k : ℕ} {l : List ℕ} {place : Option ℕ} (p : Moved img H.Node w.runs 0 k l place) where
-    pub layering-start : {stack : InodeLayerStack} {b : Bool} → stack.count ≡ 0 → length stack.deltas ≡ 17 → Layering img w.count k l stack b l stack b 0
-    layering-start c d = record { low = omega arith; whole = rw p.is (base-set h p.sound); few = omega arith; wide = d; base = refl; taken = λ from t. t }
+pub over-set : (img : List ℕ) (rs : List Run) (i : ℕ) (r : Run) (ss : List (List Row)) → i < length rs
+    → layers_over img (take (i + 1) (set rs i r)) ss ≡ run_rows img H.Record r ∷ layers_over img (take i rs) ss
+over-set img rs i r ss l = rw (take_more_set rs i r l) (over-snoc img (take i rs) r ss)
 
-    module _ {base : Run} (z : base ≡ run_at w.runs 0) {b₀ : Bool} (a : Has base k b₀) {deltas : List ℕ} where
-      taking-start : Taking img w.runs k l (record { base = place; deltas = deltas; count = 0 }) b₀ 0
-      unfolding sources_under pass_all answer records_on
-      taking-start =
-          let wide = h.wide in
-          record {
-            ahead = λ j m. rw p.is (run-kept w.runs 0 p.run j (λ e. omega arith));
-            rest = rw (p.is, run-set w.runs 0 p.run (omega arith), p.rows);
-            node = read-node img place p.reads;
-            records = tt;
-            pieces = rw p.head (node-pieces img k place p.reads);
-            top = rw (← z) (has-head (base-sound z) a);
-          }
+module _ {img : List ℕ} {k : ℕ} {old : Run} {place : Option ℕ} {rs ns : List Run} {places : InodeLayerStack} {top : Bool} {i : ℕ}
+    (t : Taking img k old place rs ns places top i) where
+  module _ (l : i < length ns) (d : Run) where
+    taking-at : get_or ns i d ≡ get_or rs i d
+    taking-at = let z : i + 0 ≡ i = omega arith in
+        rw z at (sym (get_or-drop i ns 0 d) ∙ ap (λ (xs : List Run). get_or xs 0 d) t.ahead ∙ get_or-drop i rs 0 d)
 
-      pub layering-all : {stack : InodeLayerStack} {b : Bool} {out : List ℕ} {i : ℕ} → Layering img w.count k l (record { base = place; deltas = deltas; count = 0 }) b₀ out stack b i
-          → w.count ≤ i → Taken img w k (record { more = true; inode = k; top = b; stack = stack; end = base.next }) (walk_of out w.count)
-      layering-all {i = i} g m =
-          let low = g.low in
-          let few = h.few in
-          let y : i ≡ w.count = omega arith in
-          let t = g.taken w.runs taking-start in
-          record {
-            inode = refl;
-            rest = rw y at t.rest;
-            whole = g.whole;
-            stacked = record { node = t.node; records = t.records; few = omega (arith, g.few); wide = g.wide };
-            ends = rw (g.base, z) (node-ends img place _ p.ends);
-            pieces = rw y at t.pieces;
-            top = rw y at t.top;
-          }
+    pub taking-sound : All (Sound img H.Record) rs → Sound img H.Record (get_or ns i d)
+    taking-sound a = let many = t.many in rw taking-at (All-get_or (Sound img H.Record) rs i d (omega arith) a)
 
-module _ {img : List ℕ} {n k : ℕ} {l₀ : List ℕ} {stack₀ : InodeLayerStack} {b₀ : Bool} {l : List ℕ} {stack : InodeLayerStack} {b : Bool} {i : ℕ}
-    (g : Layering img n k l₀ stack₀ b₀ l stack b i) (h : i < n) {run : Run} (z : run ≡ run_at l (i + 1)) where
-  layer-sound : Sound img H.Record run
-  layer-sound = rw (z, add-one) (g.whole.sound i h)
+    -- one layer more
+    pub taking-more : {at : Option ℕ} {next : Run} → Moved img H.Record (get_or ns i d) k at next → {more : InodeLayerStack} → Pushed places at more
+        → {b : Bool} → b ≡ is_some at → Taking img k old place rs (set ns i next) more b (i + 1)
+    unfolding pass_all answer
+    taking-more {at} {next} m {more} u e =
+        let many = t.many in
+        let here = rw taking-at at m in
+        let below = answer by_number laying k (sources_to img old rs i) in
+        let base = unplaced_node (node_at img places.base) in
+        let few = u.few in
+        let low = t.few in
+        record {
+          many = length-set ns i next ∙ t.many;
+          ahead = drop-set-lt (i + 1) ns i next (omega arith) ∙ sym (drop-drop 1 i ns) ∙ ap (λ (xs : List Run). drop 1 xs) t.ahead ∙ drop-drop 1 i rs;
+          sound = rw (take_more_set ns i next l) (All-push (Sound img H.Record) (take i ns) next t.sound m.sound);
+          rest =
+              over-set img ns i next (pass by_number k (run_rows img H.Node old) ∷ []) l
+              ∙ rw (over_more img rs i d (run_rows img H.Node old ∷ []) (omega arith), here.rows, t.rest);
+          base = u.base ∙ t.base;
+          records = rw u.places (read_more img (deltas_of places) at (get_or rs i d).next t.records here.ends);
+          few = omega arith;
+          wide = u.wide;
+          pieces =
+              rw (over_more img rs i d (run_rows img H.Node old ∷ []) (omega arith), u.places, u.base, here.head)
+              (record-pieces img k (deltas_of places) at (get_or rs i d).next base below here.ends t.pieces);
+          top = rw (over_more img rs i d (run_rows img H.Node old ∷ []) (omega arith)) (e ∙ has-head here);
+        }
 
-  module _ {top : Bool} (a : Has run k top) where
-    module _ {m : List ℕ} {place : Option ℕ} {next : InodeLayerStack} (p : Moved img H.Record l (i + 1) k m place) (u : Pushed stack place next) where
-      taking-more : (from : List ℕ) → Taking img from k l stack b i → Taking img from k (with_run l (suc i) p.run) next top (suc i)
-      unfolding sources_under pass_all answer
-      taking-more from t =
-          let few = g.whole.few in
-          let here : run_at from (suc i) ≡ run_at l (i + 1) = rw (add-one, t.ahead (suc i) (omega arith)) in
-          record {
-            ahead = λ j m. run-kept l (suc i) p.run j (λ e. omega arith) ∙ t.ahead j (omega arith);
-            rest = sources-set img l i p.run (omega arith) g.whole.wide ∙ rw (here, p.rows, t.rest);
-            node = rw u.base t.node;
-            records = rw u.places (read_more img (deltas_of stack) place t.records p.reads);
-            pieces =
-                rw (here, u.places, u.base, p.head)
-                (record-pieces img k (deltas_of stack) place (unplaced_node (node_at img stack.base)) (answer by_number laying k (sources_under img from i)) p.reads t.pieces);
-            top = rw (here, ← z) (has-head layer-sound a);
-          }
+    -- and no place more
+    pub taking-other : {at : Option ℕ} {next : Run} → Moved img H.Record (get_or ns i d) k at next → {b : Bool} → b ≡ is_some at → b ≡ false
+        → Taking img k old place rs (set ns i next) places b (i + 1)
+    taking-other {at} m e f = taking-more m (none at (sym e ∙ f)) e
+      where
+        none : (o : Option ℕ) → is_some o ≡ false → Pushed places o places
+        none None e = record { places = rw append-nil; few = omega arith; wide = t.wide; base = refl }
+        none (Some p) e = absurd (let y : ◌≡◌ {A = ℕ} 0 1 = cc in omega arith)
 
-      layering-more : Layering img n k l₀ stack₀ b₀ m next top (i + 1)
-      layering-more =
-          let few = g.whole.few in
-          rw (p.is, add-one)
-          (record {
-            low = omega arith;
-            whole = layer-set g.whole (omega arith) p.sound n few (λ j m d. m);
-            few = omega (arith, u.few, g.few);
-            wide = u.wide;
-            base = u.base ∙ g.base;
-            taken = λ from t. taking-more from (g.taken from t);
-          })
+module _ {img : List ℕ} {w : Walk} (h : Whole img w) {k : ℕ} {start : Option ℕ} {ns : List Run} {places : InodeLayerStack} {b : Bool} {i : ℕ}
+    (t : Taking img k w.base start (take w.count w.layers) ns places b i) where
+  lent : length (take w.count w.layers) ≡ w.count
+  lent = let few = h.few.few in let wide = h.few.wide in length-take-le w.count w.layers (omega arith)
 
-    pub layering-here : top ≡ true → {out : Run} {m : List ℕ} {next : InodeLayerStack} → RowsOf img H.Record (run.left - 1) run.next out → m ≡ with_run l (i + 1) out
-        → Pushed stack (Some run.place) next → Layering img n k l₀ stack₀ b₀ m next top (i + 1)
-    layering-here e d q u = layering-more (moved_here layer-sound a z e d q) u
+  pub taking-few : i < length ns → (places.count ≤ 16) × (length places.deltas ≡ 17)
+  taking-few l = let few = h.few.few in let many = t.many in let low = t.few in (omega (arith, lent), t.wide)
 
-    -- no place more
-    pub layering-other : top ≡ false → Layering img n k l₀ stack₀ b₀ l stack top (i + 1)
-    layering-other e = layering-more (moved_other layer-sound a z e) (record { places = rw append-nil; few = omega arith; wide = g.wide; base = refl })
+  module _ {place : Option ℕ} {new : Run} (m : Moved img H.Node w.base k place new) (o : start ≡ place) where
+    pub stack-found : i ≤ length ns → Stacked img places
+    stack-found l =
+        let few = h.few.few in
+        let many = t.many in
+        let low = t.few in
+        record { node = rw (t.base, o) (read-node img place w.base.next m.ends); records = t.records; few = omega (arith, lent); wide = t.wide }
+
+    pub taken-all : i ≡ length ns → {stack : Stack} → stack.img.now ≡ img → stack.places ≡ places
+        → Taken img w k (record { inode = k; top = b; stack = stack; end = w.base.next })
+        (record { base = new; layers = ns ++ drop w.count w.layers; count = w.count })
+    taken-all l e f =
+        let few = h.few.few in
+        let wide = h.few.wide in
+        let many : length ns ≡ w.count = t.many ∙ lent in
+        let at : i ≡ w.count = l ∙ many in
+        let whole : take w.count ns ≡ ns = take_all w.count ns (omega arith) in
+        let past : take w.count (ns ++ drop w.count w.layers) ≡ ns = take_at ns (drop w.count w.layers) w.count many in
+        let all : take w.count (take w.count w.layers) ≡ take w.count w.layers = take_all w.count (take w.count w.layers) (omega arith) in
+        let sound = rw (at, whole) at t.sound in
+        let rest = rw (at, whole, all) at t.rest in
+        let pieces = rw (at, all) at t.pieces in
+        let top = rw (at, all) at t.top in
+        record {
+          inode = refl;
+          rest = rw (past, m.rows) rest;
+          whole = record {
+            few = record { few = few; wide = rw (length-append, length-drop, many) (omega arith) };
+            base = m.sound;
+            layers = rw past sound;
+          };
+          image_is = e;
+          ends = rw (f, t.base, o) m.ends;
+          pieces = rw (e, f) pieces;
+          top = top;
+        }
 
 -- ---- the step
 
@@ -286,24 +300,28 @@ answered ((u ∷ s) ∷ ss) k h = go (least_key by_number ss) refl h (answered s
         choice Equal h = here h
         choice Greater h = let z : b ≡ k = cc in below (head_if by_number k (u ∷ s)) (ih k (e ∙ ap Some z))
 
-pub stepped : {img : List ℕ} {w : Walk} → Ready img w → {best : Option ℕ} → Least w best → {k : ℕ} → k ≡ unwrap_or best 0 → {r : Step} {rest : Walk} → Taken img w k r rest → {b : Bool} → b ≡ is_some best
-    → Steps img w (record { more = b; inode = r.inode; top = r.top; stack = r.stack; end = r.end }) rest
-stepped {img} {w} g {best} l {k} z {r} {rest} t e = rw e (record {
-  stacks = go best least z;
-  taken = record { inode = refl; rest = rw t.inode t.rest; whole = t.whole; stacked = t.stacked; ends = t.ends; pieces = rw t.inode t.pieces; top = rw t.inode t.top };
-  ready = record { whole = t.whole; ascend = rw t.rest (ascend-pass by_number k (sources_of img w) g.ascend) };
-  ended = λ e. least ∙ none best e;
-})
-  where
-    least : least_key by_number (sources_of img w) ≡ best
-    least = l.is img g.whole
+module _ {img : List ℕ} {w : Walk} (g : Ready img w) {best : Option ℕ} (l : Least w best) where
+  pub step_taken : {k : ℕ} → best ≡ Some k → {r : Step} {rest : Walk} → Taken img w k r rest → Steps img w (Some r) rest
+  step_taken {k} e {r} {rest} t = record {
+    stacks =
+        pile-step by_number laying (sources_of img w) g.ascend k (l.is img g.whole ∙ e)
+        ∙ rw (answered (sources_of img w) k (l.is img g.whole ∙ e), t.rest, t.inode, t.pieces);
+    taken = record {
+      inode = refl;
+      rest = rw t.inode t.rest;
+      whole = t.whole;
+      image_is = t.image_is;
+      ends = t.ends;
+      pieces = rw t.inode t.pieces;
+      top = rw t.inode t.top;
+    };
+    ready = record { whole = t.whole; ascend = rw t.rest (ascend-pass by_number k (sources_of img w) g.ascend) };
+    ended = λ z. absurd (let y : ◌≡◌ {A = ℕ} 0 1 = cc in omega arith);
+  }
 
-    none : (o : Option ℕ) → is_some o ≡ false → o ≡ None
-    none None e = refl
-    none (Some j) e = absurd (let y : ◌≡◌ {A = ℕ} 0 1 = cc in omega arith)
+  pub step-none : best ≡ None → {r : Option Step} → r ≡ None → Steps img w r w
+  step-none e d =
+      let none : least_key by_number (sources_of img w) ≡ None = l.is img g.whole ∙ e in
+      rw d (record { stacks = pile-end by_number laying (sources_of img w) none; taken = tt; ready = g; ended = λ z. none })
 
-    go : (o : Option ℕ) → least_key by_number (sources_of img w) ≡ o → k ≡ unwrap_or o 0 → stacks_left img w ≡ stacks_if (is_some o) (r.inode, pieces_in img r.stack) (stacks_left img rest)
-    go (Some j) e z =
-        pile-step by_number laying (sources_of img w) g.ascend j e
-        ∙ rw (answered (sources_of img w) j e, t.rest, t.inode, t.pieces, z)
-    go None e z = pile-end by_number laying (sources_of img w) e
+pub ruleset steps = (step_taken, step-none)

@@ -1,23 +1,18 @@
 -- Lists by inode as rows. Document 01: "Base: by rising inode", "Records by rising inode".
-use Rattle.std.specs.Prelude.{◌≡◌, Bool, true, false, List, [], ◌∷◌, ℕ, zero, suc, ◌+◌, ◌*◌, drop, get_or, set}
+use Rattle.std.specs.Prelude.{◌≡◌, List, [], ◌∷◌, ℕ, zero, suc, drop, None, Option, Some}
 use Rattle.wire.specs.Parse.{Parsed, fault, got}
 use Rattle.wire.specs.Combinators.{◌then◌}
 use Rattle.wire.specs.Number.{number_read}
+use Rattle.wire.specs.Orders.{by_number}
 use Rattle.wire.specs.Lists.{last_count}
 use Rattle.image.specs.Meaning.{Node, Record}
 use Rattle.image.specs.FieldLayout.{inode}
+use Rattle.image.specs.Places.{if_read}
 use Rattle.passes.specs.Held.{HeldUnder, held}
 use Rattle.passes.specs.declared.inode.Held.{Held}
 use Rattle.passes.specs.declared.inode.Held.TheVariants as H
+use Rattle.merge.specs.Pile.{head_if, pass}
 use Rattle.walk.specs.declared.run.Run.{Run}
-
--- ---- runs in an array, four numbers each
-
-unfoldable pub run_at : List ℕ → ℕ → Run
-run_at l i = record { inode = get_or l (i * 4) 0; place = get_or l (i * 4 + 1) 0; next = get_or l (i * 4 + 2) 0; left = get_or l (i * 4 + 3) 0 }
-
-unfoldable pub with_run : List ℕ → ℕ → Run → List ℕ
-with_run l i r = set (set (set (set l (i * 4) r.inode) (i * 4 + 1) r.place) (i * 4 + 2) r.next) (i * 4 + 3) r.left
 
 -- ---- rows
 
@@ -71,6 +66,19 @@ pub record ListOf (img : List ℕ) (h : Held) (p : ℕ) (r : Run) : Type 0 where
   pub are : run_rows img h r ≡ list_rows h (drop p img)
   pub sound : Sound img h r
 
-pub record Has (r : Run) (k : ℕ) (b : Bool) : Type 0 where
-  pub yes : b ≡ true → (r.left ≡ 0 → ⊥) × (k ≡ r.inode)
-  pub no : b ≡ false → (r.left ≡ 0 → ⊥) → k ≡ r.inode → ⊥
+-- what stands at a place, if it is one
+abbrev pub piece_at : List ℕ → Held → Option ℕ → Option Piece
+piece_at img h None = None
+piece_at img h (Some p) = if_read ((held h).read (drop p img)) (λ a r. Some (piece h a))
+
+-- it is read there, and ends there
+abbrev pub EndsAt : List ℕ → Held → Option ℕ → ℕ → Type 0
+EndsAt img h None e = Unit {0}
+EndsAt img h (Some p) e = (a : HeldUnder h) × ((held h).read (drop p img) ≡ got a (drop e img))
+
+-- the run past the inode k, and the place of what stood under k in it
+pub record Moved (img : List ℕ) (h : Held) (old : Run) (k : ℕ) (place : Option ℕ) (new : Run) : Type 0 where
+  pub rows : run_rows img h new ≡ pass by_number k (run_rows img h old)
+  pub sound : Sound img h new
+  pub head : head_if by_number k (run_rows img h old) ≡ piece_at img h place
+  pub ends : EndsAt img h place old.next

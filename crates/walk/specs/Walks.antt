@@ -1,17 +1,17 @@
 -- What a walk over the base and layers promises. Document 01: "An inode's stack is its base node, its record in each batch (front first),
 -- its live record; any may be absent."
-use Rattle.std.specs.Prelude.{◌≡◌, Bool, true, false, List, [], ◌∷◌, ℕ, zero, suc, ◌≤◌, ◌<◌, length, drop, None, Option, Some}
+use Rattle.std.specs.Prelude.{◌≡◌, List, [], ◌∷◌, ℕ, zero, suc, ◌≤◌, length, take, None, Option, Some, IfSome}
+use Rattle.std.specs.List.{All}
 use Rattle.wire.specs.Orders.{by_number}
-use Rattle.wire.specs.Parse.{got}
 use Rattle.image.specs.Meaning.{Node, Record}
-use Rattle.image.specs.NodeLayout.{node}
 use Rattle.passes.specs.declared.inode.Held.TheVariants as H
 use Rattle.survey.specs.declared.batch.InodeLayerStack.{InodeLayerStack}
 use Rattle.rules.specs.Reads.{is_there}
 use Rattle.rules.specs.PlacedStacks.{unplaced, unplaced_node}
-use Rattle.stack.specs.Stacks.{Stacked, records_in, node_in}
+use Rattle.stack.specs.Stacks.{records_in, node_in}
 use Rattle.merge.specs.Pile.{lower, least_key, head_if, pass_all, Ascend, pile, answer}
-use Rattle.walk.specs.Runs.{Piece, of_node, of_record, Row, run_at, run_rows, Sound}
+use Rattle.walk.specs.Runs.{Piece, of_node, of_record, Row, run_rows, Sound, EndsAt}
+use Rattle.stack.specs.declared.stack.Stack.{Stack}
 use Rattle.walk.specs.declared.run.Run.{Run}
 use Rattle.walk.specs.declared.walk.Walk.{Walk}
 use Rattle.walk.specs.declared.walk.Step.{Step}
@@ -44,30 +44,34 @@ top_of (s ∷ ss) = s
 
 -- ---- walks
 
-abbrev pub walk_of : List ℕ → ℕ → Walk
-walk_of l n = record { runs = l; count = n }
+-- layers, the lowest first, over what is beneath them
+unfoldable pub layers_over : List ℕ → List Run → List (List Row) → List (List Row)
+layers_over img [] ss = ss
+layers_over img (r ∷ rs) ss = layers_over img rs (run_rows img H.Record r ∷ ss)
 
--- the rows of the base, which is run 0, and of the lowest i layers over it, the topmost first
-unfoldable pub sources_under : List ℕ → List ℕ → ℕ → List (List Row)
-sources_under img l zero = run_rows img H.Node (run_at l 0) ∷ []
-sources_under img l (suc i) = run_rows img H.Record (run_at l (suc i)) ∷ sources_under img l i
-
+-- the rows of the base and of the layers over it, the topmost first
 abbrev pub sources_of : List ℕ → Walk → List (List Row)
-sources_of img w = sources_under img w.runs w.count
+sources_of img w = layers_over img (take w.count w.layers) (run_rows img H.Node w.base ∷ [])
 
 -- the stacks that a walk has left
 abbrev pub stacks_left : List ℕ → Walk → List (ℕ × Pieces)
 stacks_left img w = stacks_of (sources_of img w)
 
 -- the records and the node at the places of a stack
-abbrev pub pieces_in : List ℕ → InodeLayerStack → Pieces
-pieces_in img s = (unplaced (records_in img s), unplaced_node (node_in img s))
+abbrev pub pieces_at : List ℕ → InodeLayerStack → Pieces
+pieces_at img s = (unplaced (records_in img s), unplaced_node (node_in img s))
+
+abbrev pub pieces_in : Stack → Pieces
+pieces_in s = pieces_at s.img.now s.places
+
+pub record Few (w : Walk) : Type 0 where
+  pub few : w.count ≤ 17
+  pub wide : length w.layers ≡ 17
 
 pub record Whole (img : List ℕ) (w : Walk) : Type 0 where
-  pub wide : length w.runs ≡ 72
-  pub few : w.count ≤ 17
-  pub base : Sound img H.Node (run_at w.runs 0)
-  pub sound : (i : ℕ) → i < w.count → Sound img H.Record (run_at w.runs (suc i))
+  pub few : Few w
+  pub base : Sound img H.Node w.base
+  pub layers : All (Sound img H.Record) (take w.count w.layers)
 
 -- each run rises
 pub record Ready (img : List ℕ) (w : Walk) : Type 0 where
@@ -88,26 +92,25 @@ pub record Least (w : Walk) (r : Option ℕ) : Type 0 where
 
 -- the node at a place ends there; no place, no node
 abbrev pub NodeEnds : List ℕ → Option ℕ → ℕ → Type 0
-NodeEnds img None e = Unit {0}
-NodeEnds img (Some p) e = (a : Node) × (node.read (drop p img) ≡ got a (drop e img))
+NodeEnds img o e = EndsAt img H.Node o e
 
 -- the places of what stands under the inode k, and the walk past it
 pub record Taken (img : List ℕ) (w : Walk) (k : ℕ) (r : Step) (out : Walk) : Type 0 where
   pub inode : r.inode ≡ k
   pub rest : sources_of img out ≡ pass_all by_number k (sources_of img w)
   pub whole : Whole img out
-  pub stacked : Stacked img r.stack
-  pub ends : NodeEnds img r.stack.base r.end
-  pub pieces : pieces_in img r.stack ≡ or_nothing (answer by_number laying k (sources_of img w))
+  pub image_is : r.stack.img.now ≡ img
+  pub ends : NodeEnds img r.stack.places.base r.end
+  pub pieces : pieces_in r.stack ≡ or_nothing (answer by_number laying k (sources_of img w))
   pub top : r.top ≡ is_there (head_if by_number k (top_of (sources_of img w)))
 
-abbrev pub stacks_if : Bool → ℕ × Pieces → List (ℕ × Pieces) → List (ℕ × Pieces)
-stacks_if true e l = e ∷ l
-stacks_if false e l = []
+abbrev pub stacks_if : Option Step → List (ℕ × Pieces) → List (ℕ × Pieces)
+stacks_if (Some s) l = (s.inode, pieces_in s.stack) ∷ l
+stacks_if None l = []
 
 -- the least inode goes first, with its stack, and then the rest
-pub record Steps (img : List ℕ) (w : Walk) (r : Step) (rest : Walk) : Type 0 where
-  pub stacks : stacks_left img w ≡ stacks_if r.more (r.inode, pieces_in img r.stack) (stacks_left img rest)
-  pub taken : Taken img w r.inode r rest
+pub record Steps (img : List ℕ) (w : Walk) (r : Option Step) (rest : Walk) : Type 0 where
+  pub stacks : stacks_left img w ≡ stacks_if r (stacks_left img rest)
+  pub taken : IfSome r (λ s. Taken img w s.inode s rest)
   pub ready : Ready img rest
-  pub ended : r.more ≡ false → least_key by_number (sources_of img w) ≡ None
+  pub ended : r ≡ None → least_key by_number (sources_of img w) ≡ None

@@ -4,7 +4,7 @@ ghost use Rattle.image.specs.Places.{Ends};
 ghost use Rattle.image.specs.RecordLayout.{records};
 ghost use Rattle.walk.specs.Opens.{Starts, OpensLayers};
 
-use crate::run::{run_at, set_run};
+use crate::run::{no_run, run_at};
 use crate::walk::Walk;
 use change::section::Sections;
 use passes::inode::{Held, find_inode};
@@ -47,17 +47,18 @@ pub fn open_layers(img: &[u8], sections: Sections, n: u64) -> Layers
     ensures { OpensLayers img.now sections n result }
 {
     let (batches, first) = read_number(img, sections.batches, 16).unwrap_or((0, 0));
+    let base = run_at(img, 0, Held::Node);
+    let mut layers = [no_run(); 17];
     let mut end = first;
     let mut top = end;
-    let mut runs = [0u64; 72];
-    set_run(&mut runs, 0, run_at(img, 0, Held::Node));
     for i in 0..n {
         top = records_of(img, end, i < batches).unwrap_or(0);
-        set_run(&mut runs, i as usize + 1, run_at(img, top, Held::Record));
+        layers[i as usize] = run_at(img, top, Held::Record);
         end = records_end(img, top).unwrap_or(0);
     }
     let walk = Walk {
-        runs,
+        base,
+        layers,
         count: n as usize,
     };
     Layers { walk, top, end }

@@ -1,14 +1,8 @@
 // Runs: lists by inode in the image, each at a row of it.
-ghost use Rattle.std.specs.Prelude.{◌<◌, ◌≡◌};
-ghost use Rattle.passes.specs.Held.{held};
-ghost use Rattle.image.specs.Places.{Ends};
-ghost use Rattle.walk.specs.Runs.{run_at, with_run, Ended, RowsOf, ListOf, Has};
+ghost use Rattle.walk.specs.Runs.{Ended, RowsOf, ListOf, Sound, Moved};
 
 use image::field::LAST_WORD;
-use passes::inode::Held;
-use passes::node::pass_node;
-use passes::record::pass_record;
-use wire::fault::Fault;
+use passes::inode::{Held, pass_held};
 use wire::number::read_number;
 
 // A list by inode, at the first of the rows that are left: its inode, the place of what stands under it, and the place after that.
@@ -21,34 +15,8 @@ pub struct Run {
     pub left: u64,
 }
 
-// Run `i` of an array, in which each run is four numbers.
-pub fn run_of(runs: &[u64; 72], i: usize) -> Run
-    requires { i < 18 }
-    ensures { result ≡ run_at runs.now i }
-{
-    let at = i * 4;
-    Run {
-        inode: runs[at],
-        place: runs[at + 1] as usize,
-        next: runs[at + 2] as usize,
-        left: runs[at + 3],
-    }
-}
-
-// Stores run `i` of an array.
-pub fn set_run(runs: &mut [u64; 72], i: usize, run: Run)
-    requires { i < 18 }
-    ensures { runs.new ≡ with_run runs.old i run }
-{
-    let at = i * 4;
-    runs[at] = run.inode;
-    runs[at + 1] = run.place as u64;
-    runs[at + 2] = run.next as u64;
-    runs[at + 3] = run.left;
-}
-
 // A run with no rows left.
-fn no_run() -> Run
+pub fn no_run() -> Run
     ensures { Ended result }
 {
     Run {
@@ -56,16 +24,6 @@ fn no_run() -> Run
         place: 0,
         next: 0,
         left: 0,
-    }
-}
-
-// Passes what stands under an inode.
-fn pass_under_inode(img: &[u8], at: usize, what: Held) -> Result<usize, Fault>
-    ensures { Ends img.now (held what).read at result }
-{
-    match what {
-        Held::Node => pass_node(img, at),
-        Held::Record => pass_record(img, at),
     }
 }
 
@@ -80,7 +38,7 @@ pub fn run_from(img: &[u8], at: usize, left: u64, what: Held) -> Run
     let Ok((inode, place)) = read_number(img, at, u64::MAX) else {
         return no_run();
     };
-    let Ok(next) = pass_under_inode(img, place, what) else {
+    let Ok(next) = pass_held(img, place, what) else {
         return no_run();
     };
     Run {
@@ -102,12 +60,19 @@ pub fn run_at(img: &[u8], at: usize, what: Held) -> Run
     run_from(img, first, count, what)
 }
 
-// Whether a run is at an inode.
-pub fn has_inode(run: Run, inode: u64) -> bool
-    ensures { Has run inode result }
+// The place of what stands under an inode in a run, if the run is at it; the run is moved past it.
+#[tactic(auto, using(crate::proofs::Running::moves))]
+pub fn take_place(img: &[u8], run: &mut Run, inode: u64, what: Held) -> Option<usize>
+    requires { Sound img.now what run.old }
+    ensures { Moved img.now what run.old inode result run.new }
 {
     if run.left == 0 {
-        return false;
+        return None;
     }
-    run.inode == inode
+    if run.inode != inode {
+        return None;
+    }
+    let place = run.place;
+    *run = run_from(img, run.next, run.left - 1, what);
+    Some(place)
 }

@@ -1,25 +1,25 @@
 // The walk: the least inode of all runs goes first, with the places of what stands under it, and then the rest.
-ghost use Rattle.std.specs.Prelude.{◌≤◌};
-ghost use Rattle.walk.specs.Walks.{walk_of, Whole, Ready, Lower, Least, Taken, Steps};
+ghost use Rattle.walk.specs.Walks.{Few, Whole, Ready, Lower, Least, Taken, Steps};
 
-use crate::run::{Run, has_inode, run_from, run_of, set_run};
+use crate::run::{Run, take_place};
 use passes::inode::Held;
-use survey::batch::{InodeLayerStack, pushed};
+use stack::stack::Stack;
+use survey::batch::{bare_stack, pushed};
 
-// The base, and `count` layers over it, the lowest first: of each run four numbers.
+// The base, and `count` layers over it, the lowest first: each a run. No `Vec`: the project has no heap.
 #[derive(Clone, Copy)]
 pub struct Walk {
-    pub runs: [u64; 72],
+    pub base: Run,
+    pub layers: [Run; 17],
     pub count: usize,
 }
 
-// The least inode and its stack, whether the topmost layer has it, and where its base node ends; or that no inode is left.
+// The least inode and its stack, whether the topmost layer has it, and where its base node ends.
 #[derive(Clone, Copy)]
-pub struct Step {
-    pub more: bool,
+pub struct Step<'a> {
     pub inode: u64,
     pub top: bool,
-    pub stack: InodeLayerStack,
+    pub stack: Stack<'a>,
     pub end: usize,
 }
 
@@ -43,60 +43,49 @@ fn lower(best: Option<u64>, run: Run) -> Option<u64>
 }
 
 // The least inode that stands first in a run.
-fn least_inode(runs: &[u64; 72], count: usize) -> Option<u64>
-    requires { count ≤ 17 }
-    ensures { Least (walk_of runs.now count) result }
+fn least_inode(walk: &Walk) -> Option<u64>
+    requires { Few walk.now }
+    ensures { Least walk.now result }
 {
-    let base = run_of(runs, 0);
-    let mut best = lower(None, base);
-    for i in 1..=count {
-        let run = run_of(runs, i);
-        best = lower(best, run);
+    let mut best = lower(None, walk.base);
+    for run in walk.layers[..walk.count].iter() {
+        best = lower(best, *run);
     }
     best
 }
 
 // The stack of an inode that no run is past; the runs are moved past it.
-fn take_stack(img: &[u8], runs: &mut [u64; 72], count: usize, inode: u64) -> Step
-    requires { Whole img.now (walk_of runs.old count) }
-    ensures { Taken img.now (walk_of runs.old count) inode result (walk_of runs.new count) }
+fn take_stack<'a>(img: &'a [u8], walk: &mut Walk, inode: u64) -> Step<'a>
+    requires { Whole img.now walk.old }
+    ensures { Taken img.now walk.old inode result walk.new }
 {
-    let base = run_of(runs, 0);
-    let mut top = has_inode(base, inode);
-    let mut node = None;
-    if top {
-        set_run(runs, 0, run_from(img, base.next, base.left - 1, Held::Node));
-        node = Some(base.place);
-    }
-    let mut stack = InodeLayerStack {
-        base: node,
-        deltas: [0; 17],
-        count: 0,
-    };
-    for i in 1..=count {
-        let run = run_of(runs, i);
-        top = has_inode(run, inode);
+    let end = walk.base.next;
+    let base = take_place(img, &mut walk.base, inode, Held::Node);
+    let mut top = base.is_some();
+    let mut places = bare_stack(base);
+    let count = walk.count;
+    for run in walk.layers[..count].iter_mut() {
+        let place = take_place(img, run, inode, Held::Record);
+        top = place.is_some();
         if top {
-            set_run(runs, i, run_from(img, run.next, run.left - 1, Held::Record));
-            stack = pushed(stack, Some(run.place));
+            places = pushed(places, place);
         }
     }
+    let stack = Stack { img, places };
     Step {
-        more: true,
         inode,
         top,
         stack,
-        end: base.next,
+        end,
     }
 }
 
-// The least inode with its stack; the runs are moved past it.
-pub fn next_stack(img: &[u8], runs: &mut [u64; 72], count: usize) -> Step
-    requires { Ready img.now (walk_of runs.old count) }
-    ensures { Steps img.now (walk_of runs.old count) result (walk_of runs.new count) }
+// The least inode with its stack, if any is left; the runs are moved past it.
+#[tactic(auto, using(crate::proofs::Stepping::steps))]
+pub fn next_stack<'a>(img: &'a [u8], walk: &mut Walk) -> Option<Step<'a>>
+    requires { Ready img.now walk.old }
+    ensures { Steps img.now walk.old result walk.new }
 {
-    let least = least_inode(runs, count);
-    let mut step = take_stack(img, runs, count, least.unwrap_or(0));
-    step.more = least.is_some();
-    step
+    let inode = least_inode(walk)?;
+    Some(take_stack(img, walk, inode))
 }

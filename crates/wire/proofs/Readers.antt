@@ -18,7 +18,7 @@ use Rattle.wire.specs.Text.{text-read}
 use Rattle.wire.specs.Time.{unzigzag, time}
 use Rattle.wire.specs.declared.time.Time.{Time}
 use Rattle.wire.specs.Reading.{Reads, ReadsPart, part}
-use Rattle.wire.specs.declared.text.Part.{Part}
+use Rattle.wire.specs.declared.part.Part.{Part}
 use Rattle.wire.proofs.NumberForms.{number-forth}
 use Rattle.wire.specs.declared.fault.Fault.{Fault}
 use Rattle.wire.specs.declared.fault.Fault.TheVariants.{Ended, Malformed}

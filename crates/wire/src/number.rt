@@ -17,7 +17,7 @@ pub fn read_number(s: &[u8], at: usize, most: u64) -> Result<(u64, usize), Fault
     if s.len() <= at {
         return Err(Fault::Ended);
     }
-    let first = wide(s[at]);
+    let first = s[at] as u64;
     if first < 128 {
         return judged(first, most, at + 1);
     }
@@ -32,18 +32,16 @@ fn long_number(s: &[u8], at: usize, low: u64, most: u64) -> Result<(u64, usize),
 {
     let mut sum = low;
     let mut weight: u64 = 128;
-    let mut i = at;
     let end = before_tenth(s, at);
-    while i < end {
-        let group = wide(s[i]);
+    for i in at..end {
+        let group = s[i] as u64;
         if group < 128 {
             return last_group(group, group * weight + sum, most, i + 1);
         }
         sum = (group - 128) * weight + sum;
         weight = weight * 128;
-        i += 1;
     }
-    tenth_group(s, i, sum, most)
+    tenth_group(s, end, sum, most)
 }
 
 // The place of the tenth byte of a number whose second is at `at`, or the end of the bytes if that comes first.
@@ -89,12 +87,6 @@ fn judged(value: u64, most: u64, next: usize) -> Result<(u64, usize), Fault>
         return Err(Fault::Malformed);
     }
     Ok((value, next))
-}
-
-fn wide(byte: u8) -> u64
-    ensures { (result ≡ byte) × (result < 256) }
-{
-    byte as u64
 }
 
 // Writes `number` at `at`, and answers the place after it.

@@ -3,7 +3,7 @@ ghost use Rattle.std.specs.Prelude.{◌≡◌};
 ghost use Rattle.wire.specs.Orders.{by_bytes};
 ghost use Rattle.wire.specs.Reading.{part as part_of};
 
-use crate::part::part;
+use crate::part::Part;
 use std::cmp::Ordering;
 
 pub fn compare(a: &[u8], b: &[u8]) -> Ordering
@@ -13,8 +13,8 @@ pub fn compare(a: &[u8], b: &[u8]) -> Ordering
 }
 
 // The order of a part of the image and a name, compared where the part stands.
-pub fn compare_part(image: &[u8], start: usize, length: usize, name: &[u8]) -> Ordering
-    ensures { result ≡ by_bytes.cmp (part_of image.now start length) name.now }
+pub fn compare_part(image: &[u8], part: Part, name: &[u8]) -> Ordering
+    ensures { result ≡ by_bytes.cmp (part_of image.now part.start part.length) name.now }
 {
-    compare(part(image, start, length), name)
+    compare(part.of(image), name)
 }

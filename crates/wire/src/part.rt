@@ -1,18 +1,27 @@
 // A part of a slice.
 ghost use Rattle.std.specs.Prelude.{◌≡◌};
-ghost use Rattle.wire.specs.Reading.{part as part_of};
+ghost use Rattle.wire.specs.Reading.{part};
 
-// The `length` bytes from `start` on; of a part that goes past the end, what there is of it.
-pub fn part(s: &[u8], start: usize, length: usize) -> &[u8]
-    ensures { result.now ≡ part_of s.now start length }
-{
-    let end = s.len();
-    if end <= start {
-        return &s[end..end];
+// The `length` bytes of the image from `start` on.
+#[derive(Clone, Copy, PartialEq, Eq)]
+pub struct Part {
+    pub start: usize,
+    pub length: usize,
+}
+
+impl Part {
+    // Its bytes; of a part that goes past the end, what there is of it.
+    pub fn of(self, image: &[u8]) -> &[u8]
+        ensures { result.now ≡ part image.now self.start self.length }
+    {
+        let end = image.len();
+        if end <= self.start {
+            return &image[end..end];
+        }
+        if end - self.start <= self.length {
+            return &image[self.start..end];
+        }
+        let stop = self.start + self.length;
+        &image[self.start..stop]
     }
-    if end - start <= length {
-        return &s[start..end];
-    }
-    let stop = start + length;
-    &s[start..stop]
 }

@@ -5,13 +5,14 @@ ghost use Rattle.wire.specs.Number.{edge};
 ghost use Rattle.wire.specs.Reading.{part as part_of};
 ghost use Rattle.wire.specs.Put.{Put};
 
-use crate::part::part;
+use crate::part::Part;
 
 // Writes `byte` at `at`, and answers the place after it.
 pub fn put_byte(buf: &mut [u8], at: usize, byte: u8) -> usize
     ensures { Put buf.old at (byte ∷ []) result buf.new }
 {
-    if at < buf.len() {
+    let is_inside = at < buf.len();
+    if is_inside {
         buf[at] = byte;
     }
     advance(at, 1)
@@ -28,11 +29,11 @@ pub fn put_bytes(buf: &mut [u8], at: usize, bytes: &[u8]) -> usize
     advance(at, bytes.len())
 }
 
-// Writes the `length` bytes of `s` from `start` on, or what there is of them, and answers the place after them.
-pub fn put_part(buf: &mut [u8], at: usize, s: &[u8], start: usize, length: usize) -> usize
-    ensures { Put buf.old at (part_of s.now start length) result buf.new }
+// Writes a part of the image, or what there is of it, and answers the place after it.
+pub fn put_part(buf: &mut [u8], at: usize, image: &[u8], part: Part) -> usize
+    ensures { Put buf.old at (part_of image.now part.start part.length) result buf.new }
 {
-    put_bytes(buf, at, part(s, start, length))
+    put_bytes(buf, at, part.of(image))
 }
 
 // The place `count` bytes on.

@@ -6,14 +6,8 @@ ghost use Rattle.wire.specs.Put.{Put};
 
 use crate::fault::Fault;
 use crate::number::{put_number, read_number};
+use crate::part::Part;
 use crate::put::put_bytes;
-
-// The `length` bytes of the image from `start` on.
-#[derive(Clone, Copy, PartialEq, Eq)]
-pub struct Part {
-    pub start: usize,
-    pub length: usize,
-}
 
 // The text at `at`, of `least` to `most` bytes, which is a part of the image, and the place after it.
 #[tactic(auto, using(crate::proofs::Readers::texts))]

@@ -32,7 +32,7 @@ pub fn read_time(s: &[u8], at: usize) -> Result<(Time, usize), Fault>
     Ok((time, next))
 }
 
-// The number that stands for a signed one.
+// The number that stands for a signed one. By hand, as its counterpart: the library has no such conversion.
 fn zigzag(signed: i64) -> u64
     ensures { result ≡ zigzagged signed }
 {

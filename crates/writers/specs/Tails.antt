@@ -4,6 +4,7 @@ use Rattle.wire.specs.Codec.{Codec}
 use Rattle.wire.specs.Combinators.{◌then◌, only}
 use Rattle.wire.specs.Number.{number_to}
 use Rattle.image.specs.FieldLayout.{inode, word}
+use Rattle.survey.specs.Reasons.{request_number}
 use Rattle.writers.specs.declared.tail.Tail.{Tail}
 
 abbrev pub TailParts : Type 0
@@ -14,7 +15,7 @@ abbrev pub tail : Codec TailParts
 tail = inode then word then word then number_to 5 refl
 
 abbrev pub tail_meant : Tail → TailParts
-tail_meant t = (t.next_id, (t.bytes, (t.operations, t.request)))
+tail_meant t = (t.next_id, (t.bytes, (t.operations, request_number t.request)))
 
 -- the same, where the next id passes a test: the store's ids are below it
 abbrev pub tail_if : (ℕ → Bool) → Codec TailParts

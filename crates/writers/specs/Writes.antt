@@ -1,5 +1,5 @@
 -- What the writers of the image's constructs write.
-use Rattle.wire.specs.declared.text.Part.{Part}
+use Rattle.wire.specs.declared.part.Part.{Part}
 use Rattle.std.specs.Prelude.{◌≡◌, refl, List, ◌++◌, ℕ, ◌+◌, ◌*◌, None, Option, Some}
 use Rattle.std.proofs.Common.{append_assoc}
 use Rattle.wire.specs.Combinators.{count, opt_write}

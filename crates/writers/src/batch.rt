@@ -4,19 +4,20 @@ ghost use Rattle.wire.specs.Put.{Put};
 ghost use Rattle.survey.specs.Gathering.{batch_head};
 ghost use Rattle.writers.specs.Batches.{head_meant};
 
-use image::field::LAST_WORD;
-use survey::batch::read_reason;
+use image::field::{Inode, Moment, Word};
+use nodes::field::ReadField;
+use survey::reason::{Reason, read_reason};
 use wire::fault::Fault;
-use wire::number::{put_number, read_number};
-use wire::time::{Time, put_time, read_time};
+use wire::number::put_number;
+use wire::time::{Time, put_time};
 
-// What stands before the records of a batch. The reason is a number from 1 to 5.
+// What stands before the records of a batch.
 #[derive(Clone, Copy)]
 pub struct BatchHead {
     pub id: u64,
     pub bytes: u32,
     pub operations: u32,
-    pub reason: u64,
+    pub reason: Reason,
     pub committed: Time,
 }
 
@@ -24,15 +25,15 @@ pub struct BatchHead {
 pub fn read_batch_head(img: &[u8], at: usize) -> Result<(BatchHead, usize), Fault>
     ensures { Reads img.now batch_head.read at (meant head_meant result) }
 {
-    let (id, named) = read_number(img, at, u64::MAX)?;
-    let (bytes, sized) = read_number(img, named, LAST_WORD)?;
-    let (operations, counted) = read_number(img, sized, LAST_WORD)?;
+    let (id, named) = Inode::read(img, at)?;
+    let (bytes, sized) = Word::read(img, named)?;
+    let (operations, counted) = Word::read(img, sized)?;
     let (reason, reasoned) = read_reason(img, counted)?;
-    let (committed, next) = read_time(img, reasoned)?;
+    let (committed, next) = Moment::read(img, reasoned)?;
     let head = BatchHead {
         id,
-        bytes: bytes as u32,
-        operations: operations as u32,
+        bytes,
+        operations,
         reason,
         committed,
     };
@@ -43,10 +44,9 @@ pub fn read_batch_head(img: &[u8], at: usize) -> Result<(BatchHead, usize), Faul
 pub fn put_batch_head(buf: &mut [u8], at: usize, head: BatchHead) -> usize
     ensures { Put buf.old at (batch_head.write (head_meant head)) result buf.new }
 {
-    let committed = head.committed;
     let named = put_number(buf, at, head.id);
     let sized = put_number(buf, named, head.bytes as u64);
     let counted = put_number(buf, sized, head.operations as u64);
-    let reasoned = put_number(buf, counted, head.reason);
-    put_time(buf, reasoned, committed)
+    let reasoned = put_number(buf, counted, head.reason.number());
+    put_time(buf, reasoned, head.committed)
 }

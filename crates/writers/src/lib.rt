@@ -2,6 +2,7 @@
 #![tactic(auto)]
 
 pub mod batch;
+pub mod field;
 pub mod tail;
 pub mod write;
 pub mod write_attr;

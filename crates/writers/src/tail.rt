@@ -1,34 +1,39 @@
 // What stands after live, at the end of an image, by value.
+ghost use Rattle.std.specs.Prelude.{◌≡◌};
 ghost use Rattle.wire.specs.Reading.{Reads, meant};
 ghost use Rattle.wire.specs.Put.{Put};
+ghost use Rattle.survey.specs.Reasons.{request_number};
 ghost use Rattle.writers.specs.Tails.{tail as tailCodec, tail_meant};
 
-use image::field::LAST_WORD;
+use image::field::{Inode, Word};
+use nodes::field::ReadField;
+use survey::reason::Reason;
 use wire::fault::Fault;
 use wire::number::{put_number, read_number};
 
-// The next id, the staged counts, and the request: 0, or a reason.
+// The next id, the staged counts, and the reason of a requested freeze, if there is one.
 #[derive(Clone, Copy)]
 pub struct Tail {
     pub next_id: u64,
     pub bytes: u32,
     pub operations: u32,
-    pub request: u64,
+    pub request: Option<Reason>,
 }
 
 // The tail at `at`, and the place after it.
+#[tactic(auto, using(wire::proofs::Readers::times))]
 pub fn read_tail(img: &[u8], at: usize) -> Result<(Tail, usize), Fault>
     ensures { Reads img.now tailCodec.read at (meant tail_meant result) }
 {
-    let (next_id, named) = read_number(img, at, u64::MAX)?;
-    let (bytes, sized) = read_number(img, named, LAST_WORD)?;
-    let (operations, counted) = read_number(img, sized, LAST_WORD)?;
-    let (request, next) = read_number(img, counted, 5)?;
+    let (next_id, named) = Inode::read(img, at)?;
+    let (bytes, sized) = Word::read(img, named)?;
+    let (operations, counted) = Word::read(img, sized)?;
+    let (number, next) = read_number(img, counted, 5)?;
     let tail = Tail {
         next_id,
-        bytes: bytes as u32,
-        operations: operations as u32,
-        request,
+        bytes,
+        operations,
+        request: Reason::numbered(number),
     };
     Ok((tail, next))
 }
@@ -40,5 +45,15 @@ pub fn put_tail(buf: &mut [u8], at: usize, tail: Tail) -> usize
     let named = put_number(buf, at, tail.next_id);
     let sized = put_number(buf, named, tail.bytes as u64);
     let counted = put_number(buf, sized, tail.operations as u64);
-    put_number(buf, counted, tail.request)
+    put_number(buf, counted, request_number(tail.request))
+}
+
+// The number of a request in the image; 0 for none.
+fn request_number(request: Option<Reason>) -> u64
+    ensures { result ≡ request_number request }
+{
+    match request {
+        Some(reason) => reason.number(),
+        None => 0,
+    }
 }

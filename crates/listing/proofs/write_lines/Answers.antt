@@ -1,6 +1,6 @@
-use borrow.Author.Rules.{rules}
-use native.Mathlib.Omega.{arith}
-use Rattle.lines.proofs.Whole.{next-rows}
+use Rattle.std.proofs.Common.{◌≡◌, rules, arith, length, sym}
+use Rattle.std.proofs.lemmas.List.{length-take-le}
+use Rattle.lines.proofs.Whole.{next-rows, line-ends}
 use Rattle.listing.proofs.write_lines.Goals as goal
 
 pub loop-init : goal.loop-init
@@ -14,3 +14,13 @@ loop-preserved g c = (
     omega (arith, c.loop.invariant.1.1, c.put_next-next.ensures.left),
   ),
 )
+
+pub slice_bounds-line-end-in-loop : goal.slice_bounds-line-end-in-loop
+slice_bounds-line-end-in-loop g c =
+    let long : length c.put_next-next.new.buf ≡ 128 = search rules in
+    omega (arith, line-ends c.loop.invariant.1.0 (λ z. omega (arith, z, c.loop.invariant.1.1)) c.put_next-next.ensures)
+
+pub slice_bounds-write_all-end-in-loop : goal.slice_bounds-write_all-end-in-loop
+slice_bounds-write_all-end-in-loop g c =
+    let long : length c.put_next-next.new.buf ≡ 128 = search rules in
+    sym (length-take-le _ _ (omega (arith, line-ends c.loop.invariant.1.0 (λ z. omega (arith, z, c.loop.invariant.1.1)) c.put_next-next.ensures)))

@@ -10,13 +10,16 @@ pub loop-init : goal.loop-init
 loop-init c = rw sub-zero (cut-start by_number inode layer_record)
 
 pub returns-then-inode-ino : goal.returns-then-inode-ino
-returns-then-inode-ino c = cut-found by_number inode layer_record c.loop.invariant (omega arith) c.read_number.ensures _ c.unwrap_or-inode.ensures c.pass_record.ensures _ c.unwrap_or-after.ensures (equal-N c.args.ino c.unwrap_or-inode.result.0 (omega arith) (omega arith))
+returns-then-inode-ino c = cut-found by_number inode layer_record c.loop.invariant (omega arith) c.read_number.ensures
+    _ c.unwrap_or-inode.ensures c.pass_record.ensures _ c.unwrap_or-after.ensures (equal-N c.args.ino c.unwrap_or-inode.result.0 (omega arith) (omega arith))
 
 pub loop-preserved : goal.loop-preserved
-loop-preserved c = rw sub-add-eq (cut_on by_number inode layer_record c.loop.invariant (omega arith) c.read_number.ensures _ c.unwrap_or-inode.ensures c.pass_record.ensures _ c.unwrap_or-after.ensures (greater-N c.args.ino c.unwrap_or-inode.result.0 (omega arith)))
+loop-preserved c = rw sub-add-eq (cut_on by_number inode layer_record c.loop.invariant (omega arith) c.read_number.ensures
+    _ c.unwrap_or-inode.ensures c.pass_record.ensures _ c.unwrap_or-after.ensures (greater-N c.args.ino c.unwrap_or-inode.result.0 (omega arith)))
 
 pub returns-after-loop : goal.returns-after-loop
 returns-after-loop c = cut-end by_number inode layer_record c.loop.invariant (omega arith)
 
 pub returns-then-ino-inode : goal.returns-then-ino-inode
-returns-then-ino-inode c = cut-over by_number inode layer_record c.loop.invariant (omega arith) c.read_number.ensures _ c.unwrap_or-inode.ensures (less-N c.args.ino c.unwrap_or-inode.result.0 (omega arith))
+returns-then-ino-inode c = cut-over by_number inode layer_record c.loop.invariant (omega arith) c.read_number.ensures
+    _ c.unwrap_or-inode.ensures (less-N c.args.ino c.unwrap_or-inode.result.0 (omega arith))

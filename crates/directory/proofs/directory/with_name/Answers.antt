@@ -2,9 +2,6 @@ use Rattle.directory.specs.Entries.{named_change}
 use Rattle.directory.proofs.Directories.{name_set, stays_same}
 use Rattle.directory.proofs.directory.with_name.Goals as goal
 
-pub replaced-requires : goal.replaced-requires
-replaced-requires c = c.cut_records-cut.ensures.few
-
 pub returns-in-Some : goal.returns-in-Some
 returns-in-Some c = name_set c.cut_records-cut.ensures c.live_directory.ensures c.in-Some.is c.stamped.ensures c.with_row.ensures
     c.with_row-in-Some.ensures c.replaced.ensures

@@ -46,5 +46,6 @@ pub returns-in_default : goal.returns-in_default
 returns-in_default c = cut-unread by_bytes nameText (under c.args.what) c.loop.invariant (omega arith) (part-unread c.read_text.ensures c.in_default.is) refl
 
 pub returns-in_default-pass_under : goal.returns-in_default-pass_under
-returns-in_default-pass_under c = cut-stopped by_bytes nameText (under c.args.what) c.loop.invariant (omega arith) (part-read c.read_text.ensures c.in-Ok.is) refl
+returns-in_default-pass_under c = cut-stopped by_bytes nameText (under c.args.what) c.loop.invariant (omega arith)
+    (part-read c.read_text.ensures c.in-Ok.is) refl
     c.pass_under.ensures c.in_default-pass_under.is

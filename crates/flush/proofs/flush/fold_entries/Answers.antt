@@ -17,4 +17,6 @@ pub write_flushed-requires : goal.write_flushed-requires
 write_flushed-requires c = fold-few c.in_ok-sections.ensures.sections.1 c.read_number.ensures c.unwrap-count.ensures c.open_layers-layers.ensures
 
 pub returns : goal.returns
-returns c = fold-made c.in_ok-sections.ensures.sections.1 c.read_number.ensures c.unwrap-count.ensures c.open_layers-layers.ensures c.if-count-eq0.false c.write_flushed.ensures
+returns c =
+    fold-made c.in_ok-sections.ensures.sections.1 c.read_number.ensures c.unwrap-count.ensures c.open_layers-layers.ensures c.if-count-eq0.false
+    c.write_flushed.ensures

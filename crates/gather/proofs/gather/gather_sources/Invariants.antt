@@ -1,6 +1,5 @@
-use Rattle.merge.specs.Merges.{sources}
 use Rattle.gather.proofs.Gathering.{Gathering}
 use Rattle.gather.proofs.gather.gather_sources.Given as goal
 
 abbrev pub invariant-loop-i : goal.invariant-loop-i
-invariant-loop-i l = Gathering l.img l.stack l.lists (sources l.rows l.count) l.i
+invariant-loop-i l = Gathering l.stack l.listing l.of l.all l.i

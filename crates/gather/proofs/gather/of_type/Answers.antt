@@ -1,6 +1,6 @@
-use Rattle.gather.proofs.Others.{same_rows}
+use mathlib.Core.Path.{◌∙◌}
+use Rattle.gather.proofs.Others.{same_types}
 use Rattle.gather.proofs.gather.of_type.Goals as goal
 
--- src/gather.rt:41:1
 pub returns : goal.returns
-returns c = λ img. same_rows _ _ c.type_row.ensures.0 c.type_row-2.ensures.0 (c.delta_type-new.ensures img)
+returns c = λ img. c.eq.ensures ∙ same_types c.file_type.result c.args.file_type (c.file_type.ensures img)

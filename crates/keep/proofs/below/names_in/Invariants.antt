@@ -1,6 +1,5 @@
-use Rattle.merge.specs.Merges.{sources}
 use Rattle.keep.proofs.Leading.{Leading}
 use Rattle.keep.proofs.below.names_in.Given as goal
 
 abbrev pub invariant-loop-i : goal.invariant-loop-i
-invariant-loop-i l = Leading l.img l.stack (sources l.rows l.count) l.i
+invariant-loop-i l = Leading l.stack l.all l.i

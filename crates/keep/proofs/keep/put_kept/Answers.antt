@@ -18,7 +18,8 @@ put_row-kept-requires c = keeping-few c.loop.invariant {p = c.args.list} c.rows_
 
 -- src/keep.rt:141:5
 pub loop-preserved : goal.loop-preserved
-loop-preserved c = rw sub-add-eq (keeping-on c.loop.invariant (omega arith) c.read_row-row.ensures c.seek-rest.ensures c.leads_to-below.ensures c.is_kept-stays.ensures c.put_row-kept.ensures)
+loop-preserved c =
+    rw sub-add-eq (keeping-on c.loop.invariant (omega arith) c.read_row-row.ensures c.leads_to-below.ensures c.is_kept-stays.ensures c.put_row-kept.ensures)
 
 -- src/keep.rt:125:1
 pub returns : goal.returns

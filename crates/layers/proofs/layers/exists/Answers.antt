@@ -1,17 +1,10 @@
-use mathlib.Core.Path.{refl}
-use Rattle.rules.specs.Initial.{usual}
-use Rattle.rules.specs.Asks.{Ask, ask, reply}
+use Rattle.layers.proofs.Calls.{asked-stop, asked-fine, type-there}
+use Rattle.rules.specs.Asks.{Ask}
 use Rattle.wire.proofs.Readers.{handed}
-use Rattle.stack.proofs.Opening.{opened-refused, opened-fine}
-use Rattle.layers.proofs.Calls.{type-there}
 use Rattle.layers.proofs.layers.exists.Goals as goal
 
 pub returns-in_err-stack : goal.returns-in_err-stack
-returns-in_err-stack c = rw (handed c.from_residual.ensures, opened-refused c.open_image.ensures (ask usual (Ask.exists c.args.ino)) c.in_err-stack.was)
-
-pub type_in-found-requires : goal.type_in-found-requires
-type_in-found-requires c = c.in_ok-stack.ensures.stack.stacked
+returns-in_err-stack c = asked-stop _ (Ask.exists c.args.ino) c.open_image.ensures _ c.in_err-stack.was (handed c.from_residual.ensures)
 
 pub returns : goal.returns
-unfolding reply
-returns c = rw (opened-fine c.open_image.ensures usual (Ask.exists c.args.ino) refl c.in_ok-stack.was, ← c.type_in-found.ensures, c.is_some.ensures, type-there c.type_in-found.result)
+returns c = asked-fine _ (Ask.exists c.args.ino) c.open_image.ensures c.in_ok-stack.was (rw (c.is_some.ensures, type-there c.decided.result, c.decided.ensures))

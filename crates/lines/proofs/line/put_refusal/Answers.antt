@@ -1,8 +1,5 @@
 use Rattle.wire.proofs.Puts.{put-append}
 use Rattle.lines.proofs.line.put_refusal.Goals as goal
 
--- slice-aggregate-put-bytes : tie.Need-slice-aggregate-put-bytes
--- slice-aggregate-put-bytes c = search rules
-
 pub returns : goal.returns
 returns c = put-append c.put_bytes-next.ensures c.put_field.ensures

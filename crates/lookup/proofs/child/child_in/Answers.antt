@@ -7,7 +7,7 @@ use Rattle.lookup.proofs.child.child_in.Goals as goal
 use Rattle.lookup.proofs.child.child_in.Goals.{Left-loop, else-loop-test, then-loop-test+in-Greater}
 
 -- a layer's rows end, or one is greater than the name
-passed : (c : Left-loop) → Passed c.args.img.now c.args.stack c.args.name.now c.loop.found-1 c.layers.layer
+passed : (c : Left-loop) → Passed c.args.stack c.args.name.now c.loop.found-1 c.layers.layer
 passed c =
     elim c.loop-test.branch [
       | else-loop-test w ↦ within_end c.loop.invariant (omega arith)
@@ -17,14 +17,14 @@ passed c =
 pub layers-init : goal.layers-init
 layers-init c = above-start
 
-pub entries_at-names-requires : goal.entries_at-names-requires
-entries_at-names-requires c = (c.requires, omega (arith, c.layers.invariant.low))
+pub entries_at-requires : goal.entries_at-requires
+entries_at-requires c = omega (arith, c.layers.invariant.low)
 
 pub rows_of-rows-requires : goal.rows_of-rows-requires
-rows_of-rows-requires c = (rw c.in-Some.is at c.entries_at-names.ensures).0
+rows_of-rows-requires c = (rw c.in-Some.is at c.entries_at.ensures).0
 
 pub loop-init : goal.loop-init
-loop-init c = rw sub-zero (above-into c.layers.invariant (rw c.in-Some.is at c.entries_at-names.ensures) c.rows_of-rows.ensures)
+loop-init c = rw sub-zero (above-into c.layers.invariant (rw c.in-Some.is at c.entries_at.ensures) c.rows_of-rows.ensures)
 
 pub read_row-row-requires : goal.read_row-row-requires
 read_row-row-requires c = row-there (omega arith) c.loop.invariant.seeks.standing
@@ -39,7 +39,7 @@ pub returns-in-Some : goal.returns-in-Some
 returns-in-Some c = passed-last (passed (goal.at.returns-in-Some c).Left-loop) (omega arith)
 
 pub returns-in_default : goal.returns-in_default
-returns-in_default c = above-decided c.layers.invariant (rw c.in_default.is at c.entries_at-names.ensures)
+returns-in_default c = above-decided c.layers.invariant (rw c.in_default.is at c.entries_at.ensures)
 
 pub returns-in-Equal : goal.returns-in-Equal
 returns-in-Equal c = within-here c.loop.invariant (omega arith) c.read_row-row.ensures (sym c.compare_part.ensures ∙ c.in-Equal.is) c.read_number.ensures c.unwrap-inode.ensures

@@ -1,11 +1,5 @@
-use Rattle.meld.proofs.Merging.{leads, turn-none, turn-lower, turn-own}
+use Rattle.meld.proofs.Merging.{turn-none, turn-lower, turn-own}
 use Rattle.meld.proofs.merged.next_turn.Goals as goal
-
-pub turn_between-requires : goal.turn_between-requires
-turn_between-requires c = (leads c.first_row-upper.ensures c.in-Some.is, leads c.first_row-lower.ensures c.in-Some-lower.is)
-
-pub returns-in-Some-lower : goal.returns-in-Some-lower
-returns-in-Some-lower c = record { is = c.turn_between.ensures }
 
 pub returns-in-None-lower : goal.returns-in-None-lower
 returns-in-None-lower c = rw c.own_turn.ensures (turn-own c.first_row-upper.ensures c.in-Some.is c.first_row-lower.ensures c.in-None-lower.is)

@@ -1,6 +1,5 @@
-use Rattle.merge.specs.Merges.{sources}
 use Rattle.merge.proofs.Merging.{Best}
 use Rattle.merge.proofs.merge.least.Given as goal
 
 abbrev pub invariant-loop-i : goal.invariant-loop-i
-invariant-loop-i l = Best l.img (sources l.rows l.count) l.i l.best
+invariant-loop-i l = Best l.img l.sources l.i l.best

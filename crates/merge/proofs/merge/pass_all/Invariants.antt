@@ -1,5 +1,5 @@
 use Rattle.merge.proofs.Merging.{Passing}
 use Rattle.merge.proofs.merge.pass_all.Given as goal
 
-abbrev pub invariant-loop-i : goal.invariant-loop-i
-invariant-loop-i l = Passing l.img l.initial.rows l.count l.start l.length l.rows l.i
+abbrev pub invariant-loop-source : goal.invariant-loop-source
+invariant-loop-source l = Passing l.img l.initial.sources l.name l.sources l.source-index

@@ -15,5 +15,5 @@ returns-in-Equal c = search passed-equal
 pub returns-in-Greater : goal.returns-in-Greater
 returns-in-Greater c = search passed-greater
 
-pub returns : goal.returns
-returns c = search passed_none
+pub returns-in_default : goal.returns-in_default
+returns-in_default c = passed_none c.head_of.ensures c.in_default.is

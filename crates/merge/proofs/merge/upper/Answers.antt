@@ -1,4 +1,4 @@
-use Rattle.merge.proofs.Merging.{upper-none, upper-alone, upper-less, upper-equal, upper-greater}
+use Rattle.merge.proofs.Merging.{upper-less, upper-equal, upper-greater}
 use Rattle.merge.proofs.merge.upper.Goals as goal
 
 pub returns-in-Less : goal.returns-in-Less
@@ -9,9 +9,3 @@ returns-in-Equal c = search upper-equal
 
 pub returns-in-Greater : goal.returns-in-Greater
 returns-in-Greater c = search upper-greater
-
-pub returns-then-over : goal.returns-then-over
-returns-then-over c = search upper-alone
-
-pub returns : goal.returns
-returns c = search upper-none

@@ -5,8 +5,9 @@ use Rattle.merge.proofs.source.first_row.Goals as goal
 pub returns-in_err-name : goal.returns-in_err-name
 returns-in_err-name c = row-unnamed c.requires c.read_text.ensures c.in_err-name.was (handed c.from_residual.ensures)
 
-pub returns-in_err-choice : goal.returns-in_err-choice
-returns-in_err-choice c = row-unread c.requires c.read_text.ensures c.in_ok-name.was c.read_choice.ensures c.in_err-choice.was (handed c.from_residual-in_err-choice.ensures)
+pub returns-in_err-given : goal.returns-in_err-given
+returns-in_err-given c =
+    row-unread c.requires c.read_text.ensures c.in_ok-name.was c.read_given.ensures c.in_err-given.was (handed c.from_residual-in_err-given.ensures)
 
 pub returns : goal.returns
-returns c = row-there c.requires c.read_text.ensures c.in_ok-name.was c.read_choice.ensures c.in_ok-choice.was
+returns c = row-there c.requires c.read_text.ensures c.in_ok-name.was c.read_given.ensures c.in_ok-given.was

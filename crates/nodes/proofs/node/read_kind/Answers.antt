@@ -1,34 +1,38 @@
 use mathlib.Core.Path.{refl}
-use native.Mathlib.Omega.{arith}
-use Rattle.wire.proofs.Readers.{read-stop, handed}
-use Rattle.image.specs.Meaning.{special, character, block}
-use Rattle.nodes.proofs.Nodes.{socket-kind}
-use Rattle.nodes.proofs.Values.{reads_made}
+use Rattle.wire.proofs.Readers.{handed}
+use Rattle.nodes.specs.declared.node.NodeKind.TheVariants.{File, Symlink, CharDevice, BlockDevice}
+use Rattle.nodes.proofs.Nodes.{own-stops, own-read}
 use Rattle.nodes.proofs.node.read_kind.Goals as goal
 
-pub returns-in-0 : goal.returns-in-0
-returns-in-0 c = rw c.in-0.is c.read_directory.ensures
+pub returns-in-Directory : goal.returns-in-Directory
+returns-in-Directory c = rw c.in-Directory.is c.read_directory.ensures
 
-pub returns-in-1 : goal.returns-in-1
-returns-in-1 c = rw c.in-1.is c.read_file.ensures
+pub returns-in_err-size-in-RegularFile : goal.returns-in_err-size-in-RegularFile
+returns-in_err-size-in-RegularFile c = rw c.in-RegularFile.is (own-stops c.read.ensures c.in_err-size-in-RegularFile.was (handed c.from_residual.ensures))
 
-pub returns-in-2 : goal.returns-in-2
-returns-in-2 c = rw c.in-2.is c.read_symlink.ensures
+pub returns-in_ok-size-in-RegularFile : goal.returns-in_ok-size-in-RegularFile
+returns-in_ok-size-in-RegularFile c = rw c.in-RegularFile.is (own-read c.read.ensures (File c.in_ok-size-in-RegularFile.size) c.in_ok-size-in-RegularFile.was refl c.in_ok-size-in-RegularFile.ensures.holds)
 
-pub returns-in-3 : goal.returns-in-3
-returns-in-3 c = rw c.in-3.is (record { reads = record { same = refl; within = c.requires }; entries = tt })
+pub returns-in_err-target-in-Symlink : goal.returns-in_err-target-in-Symlink
+returns-in_err-target-in-Symlink c = rw c.in-Symlink.is (own-stops c.read-in-Symlink.ensures c.in_err-target-in-Symlink.was (handed c.from_residual-in_err-target-in-Symlink.ensures))
 
-pub returns-in_err-rdev-in-4 : goal.returns-in_err-rdev-in-4
-returns-in_err-rdev-in-4 c = rw (c.in-4.is, handed c.from_residual.ensures) (record { reads = read-stop _ c.in_err-rdev-in-4.ensures; entries = tt })
+pub returns-in_ok-target-in-Symlink : goal.returns-in_ok-target-in-Symlink
+returns-in_ok-target-in-Symlink c = rw c.in-Symlink.is (own-read c.read-in-Symlink.ensures (Symlink c.in_ok-target-in-Symlink.target) c.in_ok-target-in-Symlink.was refl c.in_ok-target-in-Symlink.ensures.holds)
 
-pub returns-in_ok-rdev-in-4 : goal.returns-in_ok-rdev-in-4
-returns-in_ok-rdev-in-4 c = rw c.in-4.is (record { reads = reads_made _ (λ d. special (character d)) c.in_ok-rdev-in-4.ensures; entries = tt })
+pub returns-in_err-rdev-in-CharDevice : goal.returns-in_err-rdev-in-CharDevice
+returns-in_err-rdev-in-CharDevice c = rw c.in-CharDevice.is (own-stops c.read-in-CharDevice.ensures c.in_err-rdev-in-CharDevice.was (handed c.from_residual-in_err-rdev-in-CharDevice.ensures))
 
-pub returns-in_err-rdev-in-5 : goal.returns-in_err-rdev-in-5
-returns-in_err-rdev-in-5 c = rw (c.in-5.is, handed c.from_residual-in_err-rdev-in-5.ensures) (record { reads = read-stop _ c.in_err-rdev-in-5.ensures; entries = tt })
+pub returns-in_ok-rdev-in-CharDevice : goal.returns-in_ok-rdev-in-CharDevice
+returns-in_ok-rdev-in-CharDevice c = rw c.in-CharDevice.is (own-read c.read-in-CharDevice.ensures (CharDevice c.in_ok-rdev-in-CharDevice.rdev) c.in_ok-rdev-in-CharDevice.was refl c.in_ok-rdev-in-CharDevice.ensures.holds)
 
-pub returns-in_ok-rdev-in-5 : goal.returns-in_ok-rdev-in-5
-returns-in_ok-rdev-in-5 c = rw c.in-5.is (record { reads = reads_made _ (λ d. special (block d)) c.in_ok-rdev-in-5.ensures; entries = tt })
+pub returns-in_err-rdev-in-BlockDevice : goal.returns-in_err-rdev-in-BlockDevice
+returns-in_err-rdev-in-BlockDevice c = rw c.in-BlockDevice.is (own-stops c.read-in-BlockDevice.ensures c.in_err-rdev-in-BlockDevice.was (handed c.from_residual-in_err-rdev-in-BlockDevice.ensures))
 
-pub returns-in_default : goal.returns-in_default
-returns-in_default c = rw (socket-kind c.args.kind (omega arith)) (record { reads = record { same = refl; within = c.requires }; entries = tt })
+pub returns-in_ok-rdev-in-BlockDevice : goal.returns-in_ok-rdev-in-BlockDevice
+returns-in_ok-rdev-in-BlockDevice c = rw c.in-BlockDevice.is (own-read c.read-in-BlockDevice.ensures (BlockDevice c.in_ok-rdev-in-BlockDevice.rdev) c.in_ok-rdev-in-BlockDevice.was refl c.in_ok-rdev-in-BlockDevice.ensures.holds)
+
+pub returns-in-NamedPipe : goal.returns-in-NamedPipe
+returns-in-NamedPipe c = rw c.in-NamedPipe.is (record { reads = record { same = refl; within = c.requires }; entries = tt })
+
+pub returns-in-Socket : goal.returns-in-Socket
+returns-in-Socket c = rw c.in-Socket.is (record { reads = record { same = refl; within = c.requires }; entries = tt })

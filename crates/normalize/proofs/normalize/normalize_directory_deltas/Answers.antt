@@ -1,3 +1,4 @@
+use Rattle.std.proofs.Common.{rules}
 use native.Mathlib.Omega.{arith}
 use Rattle.rules.specs.Calls.{Call}
 use Rattle.wire.proofs.Readers.{handed}
@@ -21,8 +22,13 @@ overflow_add-position c = omega (arith, few-batches c.in_ok-sections.ensures.sec
 pub open_layers-layers-requires : goal.open_layers-layers-requires
 open_layers-layers-requires c = omega (arith, few-batches c.in_ok-sections.ensures.sections.1 c.read_number.ensures c.unwrap-count.ensures)
 
-pub write_normal-requires : goal.write_normal-requires
-write_normal-requires c = layers-ready c.in_ok-sections.ensures.sections.1 c.read_number.ensures c.unwrap-count.ensures c.if-count-position.false c.open_layers-layers.ensures
+pub write_if_room-requires : goal.write_if_room-requires
+write_if_room-requires c =
+    let ready =
+    layers-ready c.in_ok-sections.ensures.sections.1 c.read_number.ensures c.unwrap-count.ensures c.if-count-position.false c.open_layers-layers.ensures in
+    search rules
 
 pub returns : goal.returns
-returns c = position-changed c.in_ok-sections.ensures.sections.1 c.read_number.ensures c.unwrap-count.ensures c.if-count-position.false c.open_layers-layers.ensures c.write_normal.ensures
+returns c =
+    position-changed c.in_ok-sections.ensures.sections.1 c.read_number.ensures c.unwrap-count.ensures c.if-count-position.false
+    c.open_layers-layers.ensures c.write_if_room.ensures (λ t q u h. search rules)

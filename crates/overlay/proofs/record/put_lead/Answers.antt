@@ -3,6 +3,3 @@ use Rattle.overlay.proofs.record.put_lead.Goals as goal
 
 pub returns-in-Head : goal.returns-in-Head
 returns-in-Head c = rw c.in-Head.is (put-append c.put_between-counted.ensures (put-append c.put_number-first.ensures c.put_between.ensures))
-
-pub returns-in-Behind : goal.returns-in-Behind
-returns-in-Behind c = rw c.in-Behind.is c.put_between-in-Behind.ensures

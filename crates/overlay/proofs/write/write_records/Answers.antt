@@ -1,12 +1,6 @@
-use mathlib.Core.Path.{sym, ◌∙◌}
+use Rattle.std.proofs.Common.{rules}
 use Rattle.overlay.specs.NewRecords.{new_image}
-use Rattle.change.proofs.Finishing.{finish-roomless, finish-written}
 use Rattle.overlay.proofs.write.write_records.Goals as goal
 
-pub returns-then-lacks_room : goal.returns-then-lacks_room
-returns-then-lacks_room c = finish-roomless {bytes = new_image c.args.img.now c.args.given.now c.args.new_name.now c.args.sections c.args.new}
-    (rw c.lead_in-lead.ensures at c.put_images-size.ensures) (sym c.lacks_room.ensures ∙ c.if-lacks_room.true)
-
 pub returns : goal.returns
-returns c = finish-written {bytes = new_image c.args.img.now c.args.given.now c.args.new_name.now c.args.sections c.args.new}
-    (rw c.lead_in-lead.ensures at c.put_images-size.ensures) (sym c.lacks_room.ensures ∙ c.if-lacks_room.false) (rw c.lead_in-lead.ensures at c.put_images-end.ensures)
+returns c = c.write_if_room.ensures (new_image c.args.img.now c.args.given.now c.args.new_name.now c.args.sections c.args.new) (λ l q m h. search rules)

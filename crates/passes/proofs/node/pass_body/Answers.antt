@@ -1,26 +1,28 @@
+use mathlib.Core.Path.{refl}
 use native.Mathlib.Omega.{arith}
-use borrow.Author.Rules.{rules}
 use Rattle.image.proofs.Passing.{passes}
-use Rattle.image.proofs.Constructs.{passes-nothing}
 use Rattle.passes.proofs.node.pass_body.Goals as goal
 
-pub returns-in_err-entries-in-0 : goal.returns-in_err-entries-in-0
-returns-in_err-entries-in-0 c = rw c.in-0.is (search (passes, arith))
+pub returns-in_err-entries-in-Directory : goal.returns-in_err-entries-in-Directory
+returns-in_err-entries-in-Directory c = rw c.in-Directory.is (search (passes, arith))
 
-pub returns-in_ok-entries-in-0 : goal.returns-in_ok-entries-in-0
-returns-in_ok-entries-in-0 c = rw c.in-0.is (search (passes, arith))
+pub returns-in_ok-entries-in-Directory : goal.returns-in_ok-entries-in-Directory
+returns-in_ok-entries-in-Directory c = rw c.in-Directory.is (search (passes, arith))
 
-pub returns-in-1 : goal.returns-in-1
-returns-in-1 c = rw c.in-1.is c.pass_number-in-1.ensures
+pub returns-in-RegularFile : goal.returns-in-RegularFile
+returns-in-RegularFile c = rw c.in-RegularFile.is c.pass-in-RegularFile.ensures
 
-pub returns-in-2 : goal.returns-in-2
-returns-in-2 c = rw c.in-2.is c.pass_text.ensures
+pub returns-in-Symlink : goal.returns-in-Symlink
+returns-in-Symlink c = rw c.in-Symlink.is c.pass-in-Symlink.ensures
 
-pub returns-in-4 : goal.returns-in-4
-returns-in-4 c = rw c.in-4.is c.pass_number-in-4.ensures
+pub returns-in-NamedPipe : goal.returns-in-NamedPipe
+returns-in-NamedPipe c = rw c.in-NamedPipe.is (record { same = refl; within = c.requires })
 
-pub returns-in-5 : goal.returns-in-5
-returns-in-5 c = rw c.in-5.is c.pass_number-in-5.ensures
+pub returns-in-CharDevice : goal.returns-in-CharDevice
+returns-in-CharDevice c = rw c.in-CharDevice.is c.pass-in-CharDevice.ensures
 
-pub returns-in_default : goal.returns-in_default
-returns-in_default c = passes-nothing _ (search rules) (search rules) (search rules) (search rules) (search rules) c.requires
+pub returns-in-BlockDevice : goal.returns-in-BlockDevice
+returns-in-BlockDevice c = rw c.in-BlockDevice.is c.pass-in-BlockDevice.ensures
+
+pub returns-in-Socket : goal.returns-in-Socket
+returns-in-Socket c = rw c.in-Socket.is (record { same = refl; within = c.requires })

@@ -1,15 +1,22 @@
-use borrow.Author.Rules.{rules}
-use Rattle.image.proofs.Constructs.{passes-device}
 use Rattle.passes.proofs.record.pass_change.Goals as goal
 
-pub returns-in-0 : goal.returns-in-0
-returns-in-0 c = rw c.in-0.is c.pass_directory.ensures
+pub returns-in-Directory : goal.returns-in-Directory
+returns-in-Directory c = rw c.in-Directory.is c.pass_directory.ensures
 
-pub returns-in-1 : goal.returns-in-1
-returns-in-1 c = rw c.in-1.is c.pass_maybe_number.ensures
+pub returns-in-RegularFile : goal.returns-in-RegularFile
+returns-in-RegularFile c = rw c.in-RegularFile.is c.pass_maybe.ensures
 
-pub returns-in-2 : goal.returns-in-2
-returns-in-2 c = rw c.in-2.is c.pass_maybe_text.ensures
+pub returns-in-Symlink : goal.returns-in-Symlink
+returns-in-Symlink c = rw c.in-Symlink.is c.pass_maybe-in-Symlink.ensures
 
-pub returns-in_default : goal.returns-in_default
-returns-in_default c = passes-device _ (search rules) (search rules) (search rules) c.pass_number.ensures
+pub returns-in-NamedPipe : goal.returns-in-NamedPipe
+returns-in-NamedPipe c = rw c.in-NamedPipe.is c.pass.ensures
+
+pub returns-in-CharDevice : goal.returns-in-CharDevice
+returns-in-CharDevice c = rw c.in-CharDevice.is c.pass-in-CharDevice.ensures
+
+pub returns-in-BlockDevice : goal.returns-in-BlockDevice
+returns-in-BlockDevice c = rw c.in-BlockDevice.is c.pass-in-BlockDevice.ensures
+
+pub returns-in-Socket : goal.returns-in-Socket
+returns-in-Socket c = rw c.in-Socket.is c.pass-in-Socket.ensures

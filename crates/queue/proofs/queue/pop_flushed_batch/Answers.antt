@@ -18,7 +18,9 @@ pub unwrap-rest-requires : goal.unwrap-rest-requires
 unwrap-rest-requires c = front-ok c.in_ok-sections.ensures.sections.1 c.read_number.ensures c.unwrap-count.ensures c.if-count-eq0.false _ c.pass_batch.ensures
 
 pub returns-then-head-batch_id : goal.returns-then-head-batch_id
-returns-then-head-batch_id c = pop-other c.in_ok-sections.ensures.sections.1 c.read_number.ensures c.unwrap-count.ensures c.if-count-eq0.false _ c.pass_batch.ensures c.unwrap-rest.ensures _ c.if-head-batch_id.true
+returns-then-head-batch_id c = pop-other c.in_ok-sections.ensures.sections.1 c.read_number.ensures c.unwrap-count.ensures
+    c.if-count-eq0.false _ c.pass_batch.ensures c.unwrap-rest.ensures _ c.if-head-batch_id.true
 
 pub returns : goal.returns
-returns c = pop-made c.in_ok-sections.ensures.sections.1 c.read_number.ensures c.unwrap-count.ensures c.if-count-eq0.false _ c.pass_batch.ensures c.unwrap-rest.ensures _ c.if-head-batch_id.false c.write_queue.ensures
+returns c = pop-made c.in_ok-sections.ensures.sections.1 c.read_number.ensures c.unwrap-count.ensures
+    c.if-count-eq0.false _ c.pass_batch.ensures c.unwrap-rest.ensures _ c.if-head-batch_id.false c.write_queue.ensures

@@ -1,9 +1,8 @@
 use mathlib.Core.Path.{sym, ◌∙◌}
-use native.Mathlib.Omega.{arith}
 use Rattle.wire.proofs.Readers.{handed}
 use Rattle.rules.specs.Calls.{Call}
 use Rattle.change.proofs.Finishing.{changes-unopened}
-use Rattle.queue.proofs.Staging.{counts-in, tail-ok, note-refused, note-made}
+use Rattle.queue.proofs.Staging.{tail-ok, note-refused, note-made}
 use Rattle.queue.proofs.queue.record_mutation.Goals as goal
 
 pub returns-in_err-sections : goal.returns-in_err-sections
@@ -13,16 +12,9 @@ pub unwrap-requires : goal.unwrap-requires
 unwrap-requires c = tail-ok c.in_ok-sections.ensures.sections.1 _ c.read_tail.ensures
 
 pub returns-then-passes_count : goal.returns-then-passes_count
-returns-then-passes_count c = note-refused c.in_ok-sections.ensures.sections.1 c.read_tail.ensures c.unwrap.ensures _ (sym c.passes_count.ensures ∙ c.if-passes_count.true)
-
-pub overflow_cast-tail : goal.overflow_cast-tail
-overflow_cast-tail c = omega (arith, counts-in c.unwrap.result.0.bytes _ c.unwrap.result.0.operations (sym c.passes_count.ensures ∙ c.if-passes_count.false))
-
-pub overflow_add-tail : goal.overflow_add-tail
-overflow_add-tail c = omega (arith, counts-in c.unwrap.result.0.bytes _ c.unwrap.result.0.operations (sym c.passes_count.ensures ∙ c.if-passes_count.false))
-
-pub overflow_add-tail-2 : goal.overflow_add-tail-2
-overflow_add-tail-2 c = omega (arith, counts-in c.unwrap.result.0.bytes c.args.additional_bytes c.unwrap.result.0.operations (sym c.passes_count.ensures ∙ c.if-passes_count.false))
+returns-then-passes_count c = note-refused c.in_ok-sections.ensures.sections.1 c.read_tail.ensures c.unwrap.ensures
+    _ (sym c.passes_count.ensures ∙ c.if-passes_count.true)
 
 pub returns : goal.returns
-returns c = note-made c.in_ok-sections.ensures.sections.1 c.read_tail.ensures c.unwrap.ensures _ (sym c.passes_count.ensures ∙ c.if-passes_count.false) c.write_queue.ensures
+returns c = note-made c.in_ok-sections.ensures.sections.1 c.read_tail.ensures c.unwrap.ensures _
+    (sym c.passes_count.ensures ∙ c.if-passes_count.false) c.write_queue.ensures

@@ -1,3 +1,4 @@
+use native.Mathlib.Omega.{arith}
 use Rattle.wire.proofs.Readers.{handed}
 use Rattle.rules.specs.Calls.{Call}
 use Rattle.change.proofs.Finishing.{changes-unopened}
@@ -14,4 +15,5 @@ pub unwrap-requires : goal.unwrap-requires
 unwrap-requires c = tail-ok c.in_ok-sections.ensures.sections.1 _ c.read_tail.ensures
 
 pub returns : goal.returns
-returns c = request-made c.in_ok-sections.ensures.sections.1 c.read_tail.ensures c.unwrap.ensures c.if-reason-gt5.false c.write_queue.ensures
+returns c = request-made c.in_ok-sections.ensures.sections.1 c.read_tail.ensures c.unwrap.ensures _ c.if-reason-gt5.false
+    (omega arith) c.write_queue.ensures

@@ -6,12 +6,6 @@ use Rattle.rows.proofs.listing.plan_listing.Goals as goal
 pub returns-in_err-stack : goal.returns-in_err-stack
 returns-in_err-stack c = listing-refused c.open_image.ensures c.args.room c.args.listing c.in_err-stack.was (handed c.from_residual.ensures)
 
-pub shown_attr-requires : goal.shown_attr-requires
-shown_attr-requires c = c.in_ok-stack.ensures.stack.stacked
-
-pub plan_rows-requires : goal.plan_rows-requires
-plan_rows-requires c = c.in_ok-stack.ensures.stack.stacked
-
 pub returns-in_err-plan : goal.returns-in_err-plan
 returns-in_err-plan c = listing-few c.open_image.ensures c.args.room c.in_ok-stack.was c.args.listing c.shown_attr.ensures (sym c.is_listed.ensures ∙ c.if-is_listed.true) c.plan_rows.ensures c.in_err-plan.was (handed c.from_residual-in_err-plan.ensures)
 

@@ -3,10 +3,10 @@ use Rattle.trace.proofs.Saying.{silent-start, silent-on, decides-base, decides-n
 use Rattle.trace.proofs.said.deciding.Goals as goal
 
 pub loop-i-init : goal.loop-i-init
-loop-i-init c = silent-start _ _ _
+loop-i-init c = silent-start _ _
 
 pub says_at-requires : goal.says_at-requires
-says_at-requires c = (c.requires, omega (arith, c.loop-i.invariant.low))
+says_at-requires c = omega (arith, c.loop-i.invariant.low)
 
 pub returns-in-NoChild : goal.returns-in-NoChild
 returns-in-NoChild c = decides-next c.loop-i.invariant (omega arith) c.says_at.ensures (rw c.in-NoChild.is tt)

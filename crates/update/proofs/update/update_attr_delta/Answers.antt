@@ -12,9 +12,6 @@ returns-in_err-sections c = changes-unopened (Call.update c.args.ino (given_fiel
 pub returns-in_default : goal.returns-in_default
 returns-in_default c = update-refused c.args.delta.now c.in_ok-sections.ensures.sections.1 c.whole_fields.ensures c.args.ino c.in_default.is
 
-pub with_fields-new-requires : goal.with_fields-new-requires
-with_fields-new-requires c = c.in_ok-sections.ensures.stack.stacked
-
 pub returns : goal.returns
 returns c = update-made c.args.delta.now c.in_ok-sections.ensures.sections.1 c.whole_fields.ensures c.in-Some.is
     c.in_ok-sections.ensures.stack c.with_fields-new.ensures c.write_record.ensures

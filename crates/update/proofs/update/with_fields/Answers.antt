@@ -4,9 +4,9 @@ use Rattle.update.proofs.update.with_fields.Goals as goal
 pub returns-in-Some : goal.returns-in-Some
 returns-in-Some c = updates-live c.cut_records-cut.ensures c.in-Some.is c.onto_live.ensures c.replaced.ensures
 
-pub returns-in-Some-type_in : goal.returns-in-Some-type_in
-returns-in-Some-type_in c = updates-new c.cut_records-cut.ensures c.in-None.is c.type_in.ensures c.in-Some-type_in.is c.type_code.ensures
-    c.new_delta-new.ensures c.replaced-in-Some-type_in.ensures
+pub returns-in-Some-decided : goal.returns-in-Some-decided
+returns-in-Some-decided c = updates-new c.cut_records-cut.ensures c.in-None.is c.decided.ensures c.in-Some-decided.is
+    c.new_delta.ensures c.replaced-in-Some-decided.ensures
 
-pub returns-in-None-type_in : goal.returns-in-None-type_in
-returns-in-None-type_in c = updates-none c.cut_records-cut.ensures c.in-None.is c.type_in.ensures c.in-None-type_in.is c.unchanged.ensures
+pub returns-in-None-decided : goal.returns-in-None-decided
+returns-in-None-decided c = updates-none c.cut_records-cut.ensures c.in-None.is c.decided.ensures c.in-None-decided.is c.unchanged.ensures

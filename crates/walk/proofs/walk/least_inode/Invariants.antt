@@ -1,7 +1,7 @@
 use mathlib.Core.Path.{◌≡◌}
-use Prim.Native.Nat.{ℕ, ◌+◌}
-use Rattle.walk.proofs.Stepping.{Leasting}
+use lib.ListN.{drop}
+use Rattle.walk.proofs.Stepping.{lowest}
 use Rattle.walk.proofs.walk.least_inode.Given as goal
 
-abbrev pub invariant-loop-i : goal.invariant-loop-i
-invariant-loop-i l = (j : ℕ) × (l.i ≡ j + 1) × Leasting l.runs l.count j l.best
+abbrev pub invariant-loop-run : goal.invariant-loop-run
+invariant-loop-run l = lowest (drop l.run-index l.run-items) l.best ≡ lowest l.run-items l.initial.best

@@ -1,7 +1,5 @@
-use mathlib.Core.Path.{◌≡◌}
-use Prim.Native.Nat.{ℕ, ◌+◌}
-use Rattle.walk.proofs.Stepping.{Layering}
+use Rattle.walk.proofs.Stepping.{Taking}
 use Rattle.walk.proofs.walk.take_stack.Given as goal
 
-abbrev pub invariant-loop-i : goal.invariant-loop-i
-invariant-loop-i l = (j : ℕ) × (l.i ≡ j + 1) × Layering l.img l.count l.inode l.initial.runs l.initial.stack l.initial.top l.runs l.stack l.top j
+abbrev pub invariant-loop-run : goal.invariant-loop-run
+invariant-loop-run l = Taking l.img l.inode l.fn.walk.base l.initial.places.base l.initial.run-items l.run-items l.places l.top l.run-index

@@ -1,12 +1,7 @@
 use native.Mathlib.Omega.{arith}
+use Rattle.std.specs.Prelude.{◌≡◌}
 use Rattle.wire.proofs.Groups.{far-start, far-inside, far-last, far-more, far-group, far-sum, far-high, far-high-sum, far-weight, far-low, far-rest}
 use Rattle.wire.proofs.number.long_number.Goals as goal
-
-pub loop-i-init : goal.loop-i-init
-loop-i-init c = far-start c.requires.0
-
-pub bounds-s-i : goal.bounds-s-i
-bounds-s-i c = search far-inside
 
 pub overflow_mul-group : goal.overflow_mul-group
 overflow_mul-group c = search (far-group, arith)
@@ -27,10 +22,10 @@ pub overflow_mul-weight : goal.overflow_mul-weight
 overflow_mul-weight c = search far-weight
 
 pub loop-i-preserved : goal.loop-i-preserved
-loop-i-preserved c = search (far-more, arith)
-
-pub tenth_group-requires : goal.tenth_group-requires
-tenth_group-requires c = search far-low
+loop-i-preserved c = (search (far-more, arith), omega arith)
 
 pub returns : goal.returns
-returns c = search (far-rest, arith)
+returns c =
+    let e : c.before_tenth-end.result ≡ c.loop-i.i = omega arith in
+    let g = rw e at c.tenth_group.ensures in
+    search (far-rest, arith)

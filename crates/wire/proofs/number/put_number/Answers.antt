@@ -2,14 +2,8 @@ use native.Mathlib.Omega.{arith}
 use Rattle.wire.proofs.Puts.{left-all, left-digit, left-last, put-length}
 use Rattle.wire.proofs.number.put_number.Goals as goal
 
-pub loop-rest-init : goal.loop-rest-init
-loop-rest-init c = search (left-all, arith)
-
 pub loop-rest-preserved : goal.loop-rest-preserved
 loop-rest-preserved c = search left-digit
 
 pub returns : goal.returns
 returns c = search left-last
-
-pub shape_of-buf : goal.shape_of-buf
-shape_of-buf c = put-length (returns c)

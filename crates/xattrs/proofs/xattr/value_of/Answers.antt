@@ -1,13 +1,14 @@
-use mathlib.Core.Path.{sym}
+use mathlib.Core.Path.{ap}
 use Rattle.wire.proofs.Readers.{handed}
-use Rattle.stack.proofs.Naming.{xattr-refused, xattr-fine}
+use Rattle.rules.specs.Answers.{answer}
+use Rattle.rules.specs.Asks.{Ask}
+use Rattle.layers.proofs.Calls.{asked-stop, asked-fine}
 use Rattle.xattrs.proofs.xattr.value_of.Goals as goal
 
 pub returns-in_err-stack : goal.returns-in_err-stack
-returns-in_err-stack c = rw (handed c.from_residual.ensures) (sym (xattr-refused c.open_named.ensures c.in_err-stack.was))
-
-pub xattr_in-value-requires : goal.xattr_in-value-requires
-xattr_in-value-requires c = c.in_ok-stack.ensures.stack.stacked
+returns-in_err-stack c = asked-stop _ (Ask.attribute c.args.ino c.args.name.now) c.open_named.ensures _ c.in_err-stack.was (handed c.from_residual.ensures)
 
 pub returns : goal.returns
-returns c = sym (xattr-fine c.open_named.ensures c.in_ok-stack.was c.xattr_in-value.ensures)
+returns c =
+    let same = c.in_ok-stack.ensures.stack.image_is in
+    asked-fine _ (Ask.attribute c.args.ino c.args.name.now) c.open_named.ensures c.in_ok-stack.was (ap answer (rw (← same) c.decided.ensures))

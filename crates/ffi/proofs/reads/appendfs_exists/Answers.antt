@@ -1,6 +1,0 @@
-use mathlib.Core.Path.{ap, ◌∙◌}
-use Rattle.ffi.specs.Replies.{yes_no_reply}
-use Rattle.ffi.proofs.reads.appendfs_exists.Goals as goal
-
-pub returns : goal.returns
-returns c = c.yes_no_reply.ensures ∙ ap yes_no_reply c.exists.ensures

@@ -1,9 +1,0 @@
-use native.Mathlib.Omega.{arith}
-use Rattle.writers.proofs.Writing.{put-nothing}
-use Rattle.writers.proofs.write.put_option_u32.Goals as goal
-
-pub returns-in-Some : goal.returns-in-Some
-returns-in-Some c = rw c.in-Some.is c.put_number.ensures
-
-pub returns-in-None : goal.returns-in-None
-returns-in-None c = rw c.in-None.is (put-nothing (omega arith) c.ranges.at)

@@ -1,2 +1,0 @@
--- Extended attributes by name.
-pub mod Xattrs
