@@ -40,7 +40,8 @@ pub fn with_row(img: &[u8], list: Option<Part>, what: Under, name: &[u8], new: N
     }
 }
 
-// The list that ends at `end` with another row where it is cut. If the name has none before and after, the list stays.
+// The list that ends at `end` with another row where it is cut. If the name has none before and after, the list stays. A clause on the count,
+// here and in `changed_rows`, as in `replaced`.
 fn with_cut(list: Option<Part>, cut: Cut, end: usize, new: NewRow) -> NewList
     requires { cut.count ≤ last_count }
     ensures { result ≡ cut_list list cut end new }

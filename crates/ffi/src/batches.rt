@@ -59,7 +59,7 @@ pub extern "C" fn appendfs_record_mutation(
     change_reply(record_mutation(img, additional_bytes, target))
 }
 
-// Requests a freeze, for a reason from 1 to 5; 0 takes a request back.
+// Requests a freeze, for a reason from 1 to 5; 0 takes a request back. C gives a number.
 #[unsafe(no_mangle)]
 pub extern "C" fn appendfs_request(img: &[u8], reason: u64, target: &mut [u8]) -> ChangeReply
     ensures { ChangeReplies (request_freeze usual img.now reason (length target.old)) target.old result target.new }

@@ -7,7 +7,7 @@ ghost use Rattle.ffi.specs.Replies.{count_reply, RowsReplies};
 use rows::listing::{Entry, list_directory, list_xattrs};
 use survey::refusal::Refusal;
 
-// `count` is that of the rows filled.
+// `count` is that of the rows filled. Laid out for C, as the replies of `reply`.
 #[repr(C)]
 #[derive(Clone, Copy)]
 pub struct RowsReply {

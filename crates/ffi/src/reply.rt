@@ -72,7 +72,7 @@ pub struct AttrReply {
     pub attr: Attr,
 }
 
-// The text is the part of the image from `start` on, of `length` bytes.
+// The text is the part of the image from `start` on, of `length` bytes: two fields, as C has them.
 #[repr(C)]
 #[derive(Clone, Copy)]
 pub struct TextReply {

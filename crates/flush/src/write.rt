@@ -58,7 +58,8 @@ fn put_rest(buf: &mut [u8], at: usize, img: &[u8], flush: Flush) -> usize
     }
 }
 
-// Measures the new image, and writes it to the target if there is room.
+// Measures the new image, and writes it to the target if there is room. By itself and not by `write_if_room`: the count of the nodes stands
+// before them, so that would walk the layers a third time.
 pub fn write_flushed(
     img: &[u8],
     walk: Walk,

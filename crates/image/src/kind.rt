@@ -33,15 +33,7 @@ impl FileType {
     pub fn letter(self) -> u8
         ensures { result ≡ letter (kind_meant self) }
     {
-        match self {
-            FileType::Directory => b'd',
-            FileType::RegularFile => b'-',
-            FileType::Symlink => b'l',
-            FileType::NamedPipe => b'p',
-            FileType::CharDevice => b'c',
-            FileType::BlockDevice => b'b',
-            FileType::Socket => b's',
-        }
+        type_letter(self.number()).unwrap()
     }
 }
 
@@ -49,10 +41,16 @@ impl FileType {
 pub fn type_letter(kind: u64) -> Option<u8>
     ensures { result ≡ letter_of kind }
 {
-    if 6 < kind {
-        return None;
+    match kind {
+        0 => Some(b'd'),
+        1 => Some(b'-'),
+        2 => Some(b'l'),
+        3 => Some(b'p'),
+        4 => Some(b'c'),
+        5 => Some(b'b'),
+        6 => Some(b's'),
+        _ => None,
     }
-    Some(numbered(kind).letter())
 }
 
 // The kind of this number, which is at most 6.

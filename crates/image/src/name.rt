@@ -44,6 +44,8 @@ pub fn name_after(img: &[u8], at: usize, before: Option<Part>) -> Result<(Part, 
 }
 
 // Passes what stands under a name. A `match`, no type parameter: a merge has lists of all four sorts in one array, so the sort is a value.
+// That the place is in the image is a clause, here and in the other readers that may read nothing: a type for places would be made and opened
+// at each `?`.
 pub fn pass_under(img: &[u8], at: usize, what: Under) -> Result<usize, Fault>
     requires { at ≤ length img.now }
     ensures { Ends img.now (under what).read at result }

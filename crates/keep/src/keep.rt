@@ -53,7 +53,7 @@ fn is_entry_kept(img: &[u8], below: Option<u64>, under: usize) -> bool
     inode != number
 }
 
-// A removed name stays, if it leads anywhere.
+// A removed name stays, if it leads anywhere. A `match`, as in `pass_under`.
 fn is_kept(img: &[u8], what: Under, below: Option<u64>, under: usize) -> bool
     ensures { Keeps img.now what below under result }
 {
@@ -65,7 +65,7 @@ fn is_kept(img: &[u8], what: Under, below: Option<u64>, under: usize) -> bool
     }
 }
 
-// Writes a row as it stands, if it stays.
+// Writes a row as it stands, if it stays. Two places and no `Part`, as `put_between` takes them.
 fn put_row(buf: &mut [u8], kept: Kept, img: &[u8], start: usize, end: usize, stays: bool) -> Kept
     requires { kept.count < edge }
     ensures { PutsRow (between img.now start end) stays kept buf.old result buf.new }

@@ -29,7 +29,7 @@ pub fn lookup_child(img: &[u8], ino: u64, name: &[u8]) -> Result<Option<u64>, Re
 }
 
 // From the top: the first layer that names the child, or removes it, decides. The base is layer 0.
-// Not a `Question`, but one loop over layers and rows: it is the hot path.
+// Not a `Question`: the project fixes this form, a loop over the layers from the top and one over names in it, left by a label.
 fn child_in(stack: Stack, name: &[u8]) -> Option<u64>
     ensures { result ≡ shown_in (child name.now) stack.entry }
 {

@@ -20,7 +20,7 @@ pub enum Side {
     Old,
 }
 
-// The next row, from `start` to `end` on its side. Then the rows left of both.
+// The next row, from `start` to `end` on its side: two places and no `Part`, as `put_between` takes them. Then the rows left of both.
 #[derive(Clone, Copy)]
 pub struct Turn {
     pub side: Side,

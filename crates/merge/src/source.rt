@@ -45,7 +45,8 @@ pub fn no_value() -> Part
     }
 }
 
-// What stands under a name: what the name is given, unless it is removed; and the place after it. A `match`, as in `pass_under`.
+// What stands under a name: what the name is given, unless it is removed; and the place after it. A `match`, and
+// the place in the image, as in `pass_under`.
 fn read_given(img: &[u8], at: usize, what: Under) -> Result<(Option<Given>, usize), Fault>
     requires { at ≤ length img.now }
     ensures { Reads img.now (chosen_read what) at (meant (given_if img.now) result) }

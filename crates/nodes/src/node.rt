@@ -99,7 +99,7 @@ fn read_meta(img: &[u8], at: usize) -> Result<(InodeMeta, usize), Fault>
     Ok((meta, next))
 }
 
-// What a node of this kind has of its own.
+// What a node of this kind has of its own. The place is in the image, as in `pass_under`.
 fn read_kind(img: &[u8], at: usize, kind: FileType) -> Result<(NodeKind, usize), Fault>
     requires { at ≤ length img.now }
     ensures { ReadsKind img.now (kind_meant kind) at result }

@@ -14,7 +14,7 @@ pub fn read_names(img: &[u8], at: usize, what: Under) -> Result<(Part, usize), F
     Ok((part_from(at, end), end))
 }
 
-// The part from one place to another.
+// The part from one place to another: here a `Part` is made of two places.
 fn part_from(start: usize, end: usize) -> Part
     ensures { result ≡ part_from start end }
 {

@@ -19,7 +19,8 @@ pub enum NewRow {
     Entry(u64),
 }
 
-// A part of a list that goes. Only a rename inside one directory has one that isn't empty: there a second name's row goes.
+// A part of a list that goes: two places and no `Part`, as `put_between` takes them. Only a rename inside one directory has one that isn't
+// empty: there a second name's row goes.
 #[derive(Clone, Copy)]
 pub struct Gap {
     pub start: usize,

@@ -34,7 +34,7 @@ fn pass_meta(img: &[u8], at: usize) -> Result<usize, Fault>
     pass_names(img, attributes, Under::Value)
 }
 
-// Passes what a node of this kind has of its own.
+// Passes what a node of this kind has of its own. The place is in the image, as in `pass_under`.
 #[tactic(auto, using(image::proofs::Passing::passes))]
 fn pass_body(img: &[u8], at: usize, kind: FileType) -> Result<usize, Fault>
     requires { at ≤ length img.now }

@@ -28,7 +28,7 @@ pub fn put_entry_delta(buf: &mut [u8], at: usize, img: &[u8], delta: EntryDelta)
     }
 }
 
-// Copies a list, if it is there.
+// Copies a list, if it is there. No `PutField`: it is copied as it stands, whether it is a list or not.
 pub fn put_list_if(buf: &mut [u8], at: usize, img: &[u8], option: Option<Part>) -> usize
     ensures { Put buf.old at (list_bytes img.now option) result buf.new }
 {

@@ -16,7 +16,7 @@ use stack::open::open_image;
 use stack::stack::Stack;
 use survey::refusal::Refusal;
 
-// A row of a listing: where the name starts in the image, its length, and the inode; 0 for an attribute.
+// A row of a listing: where the name starts in the image, its length, and the inode; 0 for an attribute. Its fields are laid out for C.
 #[repr(C)]
 #[derive(Clone, Copy)]
 pub struct Entry {

@@ -1,4 +1,3 @@
-use mathlib.Core.Path.{refl}
 use Rattle.image.proofs.name.pass_under.Goals as goal
 
 pub returns-in-Inode : goal.returns-in-Inode
