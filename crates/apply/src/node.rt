@@ -4,7 +4,7 @@ ghost use Rattle.apply.specs.Folded.{with_parent, with_size, with_target, FirstM
 
 use attrs::attr::{epoch, initial_nlink, initial_perm, mode_or};
 use deltas::delta::{NodeDelta, attr_delta};
-use merge::source::no_value;
+use merge::read::no_value;
 use nodes::attr::AttrDelta;
 use nodes::node::{InodeMeta, Node, NodeKind};
 use wire::part::Part;

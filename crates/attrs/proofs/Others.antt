@@ -31,13 +31,15 @@ abbrev not_sized : List ℕ
 not_sized = 0 ∷ 3 ∷ 4 ∷ 5 ∷ 6 ∷ []
 
 pub other-size : (img : List ℕ) (n : NodeDelta) (old : ℕ) → OneOf not_sized (tag_of delta.the_type n) → old ≡ given (change_size (change_meant img n)) old
-other-size img n old = one-delta not_sized (λ n. old ≡ given (change_size (change_meant img n)) old) (λ d. refl) tt tt (λ d. refl) (λ d. refl) (λ d. refl) (λ d. refl) n
+other-size img n old =
+    one-delta not_sized (λ n. old ≡ given (change_size (change_meant img n)) old) (λ d. refl) tt tt (λ d. refl) (λ d. refl) (λ d. refl) (λ d. refl) n
 
 pub other-base-size : (img : List ℕ) (k : NodeKind) → OneOf not_sized (tag_of kind.the_type k) → 0 ≡ base_size (body_meant img k)
 other-base-size img = one-kind not_sized (λ k. 0 ≡ base_size (body_meant img k)) (λ parent es. refl) tt tt refl (λ rdev. refl) (λ rdev. refl) refl
 
 pub other-perm : (img : List ℕ) (k : NodeKind) (perm : ℕ) → OneOf not_symlink (tag_of kind.the_type k) → perm ≡ base_perm (body_meant img k) perm
-other-perm img k perm = one-kind not_symlink (λ k. perm ≡ base_perm (body_meant img k) perm) (λ parent es. refl) (λ size. refl) tt refl (λ rdev. refl) (λ rdev. refl) refl k
+other-perm img k perm =
+    one-kind not_symlink (λ k. perm ≡ base_perm (body_meant img k) perm) (λ parent es. refl) (λ size. refl) tt refl (λ rdev. refl) (λ rdev. refl) refl k
 
 -- ---- a field of a delta over the old one
 

@@ -1,15 +1,11 @@
 -- Whether a snapshot keeps the node at a place, told by its first numbers.
 -- Assumes nothing.
 use Rattle.std.specs.Prelude.{Result, Ok, Err}
-use Rattle.std.specs.Result.{result_unwrap_or}
-use mathlib.Core.Path.{◌≡◌, refl, sym, ap, ◌∙◌}
-use mathlib.Core.Bool.{Bool, true, false, not}
-use lib.Dec.{eqb}
+use mathlib.Core.Path.{◌≡◌, sym, ap, ◌∙◌}
+use mathlib.Core.Bool.{Bool}
 use mathlib.Core.List.{List, ◌++◌, append_assoc}
 use Prim.Native.Nat.{ℕ}
-use denote.Enum.Bare.{sameb}
 use lib.ListN.{drop}
-use borrow.Author.Tests.{ne_eqb}
 use Rattle.wire.specs.declared.fault.Fault.{Fault}
 use Rattle.wire.specs.Parse.{got, never-got}
 use Rattle.wire.specs.Combinators.{◌then◌}
@@ -23,12 +19,8 @@ use Rattle.image.specs.FileTypes.{kind_meant}
 use Rattle.image.specs.FieldLayout.{word, moment, attributes}
 use Rattle.image.specs.NodeLayout.{meta_parts, meta, body_part, body_part_of, node}
 use Rattle.image.proofs.OneForm.{node-one}
-use Rattle.image.specs.contracts.kind.FileType as files
 use Rattle.image.specs.declared.kind.FileType.{FileType}
-use Rattle.image.specs.declared.kind.FileType.TheVariants as F
-use Rattle.rules.specs.Queue.{is_directory}
-use Rattle.base.specs.Nodes.{KeptAt, StaysAt}
-use Rattle.base.proofs.Sifting.{sift-by}
+use Rattle.base.specs.Nodes.{Keeps, KeptAt}
 
 -- a node starts with its kind, permission and links
 record Starts (s : List ℕ) (m : M.Node) : Type 0 where
@@ -64,15 +56,6 @@ starts s m t e =
       perm_is = word.back m.meta.perm links f.1.meta.perm;
       links_is = word.back m.meta.links (rest_of m t) f.1.meta.links;
     }
-
-is-directory : (t : FileType) → sameb files.the_type t F.Directory ≡ is_directory (kind_meant t)
-is-directory F.Directory = refl
-is-directory F.RegularFile = refl
-is-directory F.Symlink = refl
-is-directory F.NamedPipe = refl
-is-directory F.CharDevice = refl
-is-directory F.BlockDevice = refl
-is-directory F.Socket = refl
 
 module _ {img : List ℕ} {p : ℕ} {o : Result (FileType × ℕ) Fault} (h : Reads img kind.read p (meant kind_meant o)) where
   pub kept-unkind : {f : Fault} → o ≡ Err f → {r : Result Bool Fault} → KeptAt img p r
@@ -112,16 +95,5 @@ module _ {img : List ℕ} {p : ℕ} {o : Result (FileType × ℕ) Fault} (h : Re
                 let z = sym (rw (second x) at x.links_is) ∙ g.same in
                 cc
 
-            pub kept-linked : (links ≡ 0 → ⊥) → KeptAt img p (Ok (not (eqb links 0)))
-            kept-linked z = record { is = λ m t w. let x = starts (drop p img) m t w in rw (← (third x), ne_eqb links 0 z) }
-
-            pub kept-directory : links ≡ 0 → {r : Bool} → r ≡ sameb files.the_type k F.Directory → KeptAt img p (Ok r)
-            kept-directory z e = record {
-              is = λ m t w. let x = starts (drop p img) m t w in rw (← (third x), z, e, is-directory, (first x).0);
-            }
-
-pub stays-told : {img : List ℕ} {p : ℕ} {d r : Bool} {o : Result Bool Fault} → d ≡ true → KeptAt img p o → r ≡ result_unwrap_or o true → StaysAt img p d r
-stays-told {r = r} x k h = record { says = λ m t e. rw x (sift-by r m (h ∙ ap (λ (o : Result Bool Fault). result_unwrap_or o true) (k.is m t e))) }
-
-pub stays-always : {img : List ℕ} {p : ℕ} {d : Bool} → d ≡ false → StaysAt img p d true
-stays-always x = record { says = λ m t e. rw x }
+            pub kept-told : {b : Bool} → Keeps links k b → KeptAt img p (Ok b)
+            kept-told h = record { is = λ m t w. let x = starts (drop p img) m t w in ap Ok (h.says m (sym (third x)) (first x).0) }

@@ -2,7 +2,7 @@
 -- Assumes nothing.
 use Rattle.std.specs.Prelude.{None, Option, Some}
 use mathlib.Core.Path.{◌≡◌, refl, sym, ap, ◌∙◌}
-use mathlib.Core.Bool.{Bool, true, false, cond}
+use mathlib.Core.Bool.{Bool, true, false}
 use mathlib.Core.Logic.{⊎_elim}
 use mathlib.Core.List.{List, [], ◌++◌, append-nil}
 use Prim.Native.Nat.{ℕ, ◌+◌, ◌-◌, ◌≤◌, ◌<◌}
@@ -12,17 +12,14 @@ use mir.Val.{Fits}
 use lib.ListN.{length, drop, length-append, length-drop, drop_of_length-le}
 use lib.Seq.{take_all, take_at}
 use Rattle.wire.specs.Number.{edge, lt-or-ge}
-use Rattle.wire.specs.Maps.{sift}
 use Rattle.wire.specs.Put.{Put}
 use Rattle.wire.proofs.Puts.{put-append, put-length}
 use Rattle.image.specs.Meaning as M
 use Rattle.image.specs.Meaning.{kind_of}
 use Rattle.image.specs.FieldLayout.{inode}
 use Rattle.image.specs.NodeLayout.{node}
-use Rattle.rules.specs.Queue.{kept}
 use Rattle.rules.specs.PlacedStacks.{records_on, node_at, unplaced_node}
 use Rattle.rules.proofs.Folded.{folded}
-use Rattle.nodes.specs.declared.node.Node.{Node}
 use Rattle.writers.proofs.Writing.{put-nothing}
 use Rattle.stack.specs.declared.stack.Stack.{Stack}
 use Rattle.change.specs.Sections.{between}
@@ -30,31 +27,17 @@ use Rattle.merge.specs.Pile.{row}
 use Rattle.fold.specs.FoldedNodes.{Shows, ShowsIf, folded_in, FoldsTo, bytes_if}
 use Rattle.fold.specs.declared.folded.Folded.{Folded}
 use Rattle.fold.proofs.Folding.{shows-kind}
-use Rattle.walk.specs.Walks.{Pieces, Ready, stacks_left, NodeEnds, Steps}
+use Rattle.walk.specs.Walks.{Pieces, stacks_left, NodeEnds, Steps}
 use Rattle.walk.specs.declared.walk.Walk.{Walk}
 use Rattle.walk.specs.declared.walk.Step.{Step}
-use Rattle.base.specs.Nodes.{kept_if, Like, Keeps, Stays, StaysAt, count_if, nodes_of, row_bytes, nodes_bytes, PutsRow, PutsNodes, Few}
-use Rattle.base.specs.declared.node.Nodes.{Nodes}
+use Rattle.base.specs.Nodes.{kept_if, Like, Stays, StaysAt, count_if, nodes_of, row_bytes, nodes_bytes, PutsRow, PutsNodes}
+use Rattle.wire.specs.declared.put.Written.{Written}
 use Rattle.image.proofs.OneForm.{node-one}
 
 -- ---- a node
 
 shows-like : {img : List ℕ} {f : Folded} {m : M.Node} → Shows img f m → Like img f.node m
 shows-like h = record { links = ap (λ (x : M.Node). x.meta.links) (sym h.is); kind = shows-kind h }
-
-pub sift-by : (b : Bool) (m : M.Node) → b ≡ kept m → sift kept (Some m) ≡ cond b (Some m) None
-sift-by b m e = go (kept m) ∙ ap (λ (x : Bool). cond x (Some m) None) (sym e)
-  where
-    go : (b : Bool) → ◌≡◌ {A = Option M.Node} (elim b [ true ↦ Some m | false ↦ None ]) (cond b (Some m) None)
-    go true = refl
-    go false = refl
-
-module _ {n : Node} {d : Bool} where
-  pub stays-kept : d ≡ true → {b : Bool} → Keeps n b → Stays n d b
-  stays-kept e {b} k = record { says = λ img m h. rw e (sift-by b m (k.says img m h)) }
-
-  pub stays_all : d ≡ false → Stays n d true
-  stays_all e = record { says = λ img m h. rw e }
 
 -- ---- the row of a stack
 
@@ -74,7 +57,7 @@ module _ (s : Stack) {o : Option Folded} (g : ShowsIf s.img.now o (folded_in s))
         go None q h = absurd h
         go (Some m) q h = (m, q, h)
 
-    module _ {d b : Bool} (k : Stays f.node d b) (i : ℕ) {old : List ℕ} (n : Nodes) where
+    module _ {d b : Bool} (k : Stays f.node d b) (i : ℕ) {old : List ℕ} (n : Written) where
       pub row_put : b ≡ true → {mid new : List ℕ} {q p : ℕ} → Put old n.end (inode.write i) q mid → Put mid q (bytes_if (folded_in s)) p new
           → PutsRow old n i (kept_if d (folded_in s)) (record { end = p; count = n.count + 1 }) new
       row_put z u v =
@@ -87,13 +70,6 @@ module _ (s : Stack) {o : Option Folded} (g : ShowsIf s.img.now o (folded_in s))
           let a = there in
           let w : kept_if d (Some a.0) ≡ None = k.says s.img.now a.0 (shows-like a.2) ∙ rw z in
           rw (a.1, w) (record { puts = put-nothing h l; counts = omega arith })
-
-  pub row-none : o ≡ None → (d : Bool) (i : ℕ) (n : Nodes) {old : List ℕ} → length old < edge → Fits w64 n.end → PutsRow old n i (kept_if d (folded_in s)) n old
-  row-none e d i n {old} h l = go (folded_in s) (rw e at g)
-    where
-      go : (x : Option M.Node) → ShowsIf s.img.now None x → PutsRow old n i (kept_if d x) n old
-      go None w = rw (none_kept d) (record { puts = put-nothing h l; counts = omega arith })
-      go (Some m) w = absurd w
 
 -- ---- a base node that no record is over
 
@@ -119,13 +95,10 @@ module _ (img : List ℕ) (p e : ℕ) (h : NodeEnds img (Some p) e) where
   base-is : unplaced_node (node_at img (Some p)) ≡ Some h.0
   base-is = rw h.1
 
-  module _ {d b : Bool} (k : StaysAt img p d b) (i : ℕ) (o : Nodes) where
+  module _ {d b : Bool} (k : StaysAt img p d b) (i : ℕ) (o : Written) where
     pub base-put : b ≡ true → {old mid new : List ℕ} {q r : ℕ} → Put old o.end (inode.write i) q mid → Put mid q (between img p e) r new
         → PutsRow old o i (kept_if d (unplaced_node (node_at img (Some p)))) (record { end = r; count = o.count + 1 }) new
     base-put z u v = rw (base-is, k.says h.0 (drop e img) h.1, z) (record { puts = put-append u (rw base-bytes at v); counts = refl })
-
-    pub base-dropped : b ≡ false → {old : List ℕ} → length old < edge → Fits w64 o.end → PutsRow old o i (kept_if d (unplaced_node (node_at img (Some p)))) o old
-    base-dropped z w l = rw (base-is, k.says h.0 (drop e img) h.1, z) (record { puts = put-nothing w l; counts = omega arith })
 
 -- ---- the rows of a walk
 
@@ -143,52 +116,43 @@ row_one None = omega arith
 row_one (Some m) = omega arith
 
 -- what is left, written after those so far, makes the whole
-pub record Writing (l₀ : List ℕ) (at : ℕ) (img : List ℕ) (all : List (ℕ × Pieces)) (d : Bool) (l : List ℕ) (w : Walk) (n : Nodes) : Type 0 where
-  pub ready : Ready img w
+pub record Writing (l₀ : List ℕ) (at : ℕ) (all : List (ℕ × Pieces)) (d : Bool) (l : List ℕ) (w : Walk) (n : Written) : Type 0 where
   pub long : length l ≡ length l₀
   pub low : n.end ≤ edge
-  pub few : n.count + length (stacks_left img w) ≤ edge
-  pub on : (r : ℕ) (k : List ℕ) → Put l n.end (nodes_bytes (nodes_of d (stacks_left img w))) r k → Put l₀ at (nodes_bytes (nodes_of d all)) r k
-  pub are : length (nodes_of d all) ≡ n.count + length (nodes_of d (stacks_left img w))
+  pub few : n.count + length (stacks_left w) ≤ edge
+  pub on : (r : ℕ) (k : List ℕ) → Put l n.end (nodes_bytes (nodes_of d (stacks_left w))) r k → Put l₀ at (nodes_bytes (nodes_of d all)) r k
+  pub are : length (nodes_of d all) ≡ n.count + length (nodes_of d (stacks_left w))
 
-pub writing-none : {l : List ℕ} {at : ℕ} {img : List ℕ} {w : Walk} (d : Bool) → Few img w → Fits w64 at
-    → Writing l at img (stacks_left img w) d l w (record { end = at; count = 0 })
-writing-none d f k = record { ready = f.ready; long = refl; low = omega (arith, k.fits); few = omega (arith, f.few); on = λ r k p. p; are = omega arith }
+pub writing-none : {l : List ℕ} {at : ℕ} (w : Walk) (d : Bool) → length (stacks_left w) ≤ edge → Fits w64 at → Writing l at (stacks_left w) d l w (record { end = at; count = 0 })
+writing-none w d few k =
+    record {
+      long = refl;
+      low = omega (arith, k.fits);
+      few = omega (arith, few);
+      on = λ r k p. p;
+      are = omega arith;
+    }
 
-module _ {l₀ : List ℕ} {at : ℕ} {img : List ℕ} {all : List (ℕ × Pieces)} {d : Bool} {l : List ℕ} {w : Walk} {n : Nodes} (g : Writing l₀ at img all d l w n)
-    {o : Option Step} {v : Walk} (s : Steps img w o v) where
-  module _ {t : Step} (e : o ≡ Some t) where
-    here : Steps img w (Some t) v
-    here = rw e at s
-
-    pub writing-ends : NodeEnds t.stack.img.now t.stack.places.base t.end
-    writing-ends = rw here.taken.image_is here.taken.ends
-
-    pub writing-room : n.count < edge
-    writing-room = let z = rw here.stacks at g.few in omega (arith, z)
-
-    pub writing-less : length (stacks_left img v) < length (stacks_left img w)
-    writing-less = rw here.stacks (omega arith)
-
-    pub writing_more : {r : Nodes} {k : List ℕ} → PutsRow l n t.inode (kept_if d (folded_in t.stack)) r k → Writing l₀ at img all d k v r
+module _ {l₀ : List ℕ} {at : ℕ} {all : List (ℕ × Pieces)} {d : Bool} {l : List ℕ} {w : Walk} {n : Written} (g : Writing l₀ at all d l w n) {v : Walk} where
+  module _ {t : Step} (s : Steps w (Some t) v) where
+    pub writing_more : {r : Written} {k : List ℕ} → PutsRow l n t.inode (kept_if d (folded_in t.stack)) r k → Writing l₀ at all d k v r
     unfolding nodes_of
     writing_more {r} {k} p =
         let m = kept_if d (folded_in t.stack) in
-        let fewer = rw here.stacks at g.few in
-        let these = rw here.stacks at g.are in
+        let fewer = rw s.stacks at g.few in
+        let these = rw s.stacks at g.are in
         record {
-          ready = here.ready;
           long = put-length p.puts ∙ g.long;
           low = omega (arith, p.puts.to);
           few = omega (arith, fewer, p.counts, row_one m);
-          on = λ q x h. g.on q x (rw (here.stacks, row-bytes t.inode m (nodes_of d (stacks_left img v))) (put-append p.puts h));
-          are = omega (arith, these, p.counts, row_count_lem t.inode m (nodes_of d (stacks_left img v)));
+          on = λ q x h. g.on q x (rw (s.stacks, row-bytes t.inode m (nodes_of d (stacks_left v))) (put-append p.puts h));
+          are = omega (arith, these, p.counts, row_count_lem t.inode m (nodes_of d (stacks_left v)));
         }
 
-  pub writing-all : o ≡ None → length l₀ < edge → PutsNodes l₀ at (nodes_of d all) n l
+  pub writing-all : Steps w None v → length l₀ < edge → PutsNodes l₀ at (nodes_of d all) n l
   unfolding nodes_of nodes_bytes
-  writing-all e h =
-      let none : stacks_left img w ≡ [] = (rw e at s).stacks in
+  writing-all s h =
+      let none : stacks_left w ≡ [] = s.stacks in
       record {
         puts = g.on n.end l (rw none (put-nothing (omega (arith, g.long)) (record { fits = omega (arith, g.low) })));
         counts = let z = rw none at g.are in omega (arith, z);

@@ -1,8 +1,9 @@
 -- Cutting a rising list at a key.
 -- Assumes nothing.
 use Rattle.std.specs.Prelude.{None, Option, Some, Result, Ok, Err}
-use Rattle.std.specs.Result.{result_unwrap_or}
+use Rattle.std.specs.Ordering.{is_eq, is_gt}
 use mathlib.Core.Path.{◌≡◌, refl, sym, ap, subst, ◌∙◌}
+use mathlib.Core.Bool.{true, false}
 use mathlib.Core.List.{List, [], ◌∷◌, ◌++◌, append_assoc, append-nil}
 use Prim.Native.Nat.{ℕ, ◌+◌, ◌-◌, ◌≤◌, ◌<◌}
 use native.Mathlib.Omega.{arith}
@@ -10,22 +11,24 @@ use lib.ListN.{length, drop, length-append}
 use Rattle.std.specs.declared.cmp.Ordering.{Ordering}
 use Rattle.std.specs.declared.cmp.Ordering.TheVariants.{Less, Equal, Greater}
 use Rattle.wire.specs.declared.fault.Fault.{Fault}
-use Rattle.wire.specs.Order.{Order}
+use Rattle.wire.specs.Order.{Order, reversed, cmp-reversed}
 use Rattle.wire.specs.Maps.{Map, get, put, map-ext, get-put}
 use Rattle.wire.specs.Rows.{Under, Rising, lookup, choose}
-use Rattle.wire.specs.Number.{number_bytes, number_read, number_to}
+use Rattle.wire.specs.Number.{number_bytes, number_to}
 use Rattle.wire.specs.Codec.{Codec}
 use Rattle.wire.specs.Lists.{Every, FitsRow, chain_write, row, onto, last_count}
 use Rattle.wire.specs.Reading.{Reads}
-use Rattle.wire.proofs.Readers.{number-most}
 use Rattle.image.specs.FieldLayout.{listed}
 use Rattle.image.specs.Places.{Ends, Holds}
+use Rattle.image.specs.Rows.{RowsAt}
+use Rattle.image.specs.declared.rows.Rows.{Rows}
+use Rattle.image.proofs.Listed.{rows-read}
 use Rattle.change.specs.Sections.{Spans}
-use Rattle.change.specs.Cuts.{three, rows_below, row_here, rows_above, rows_bytes, under_first, count_after, CutIs, Cuts, CutsList}
+use Rattle.change.specs.Cuts.{three, rows_below, row_here, rows_above, rows_bytes, under_first, compared, count_after, CutIs, Cuts, CutsList}
 use Rattle.change.specs.Edits.{is_there, row_if, edit_rows}
 use Rattle.change.specs.declared.cut.Cut.{Cut}
 use Rattle.change.proofs.EditRows.{edit-count}
-use Rattle.change.proofs.Sections.{span-back, span-front, span-both, span-reads, value-is, Past, ends-past}
+use Rattle.change.proofs.Sections.{span-back, span-front, span-both, span-reads, reads-got, same_Ok, value-is, Past, ends-past}
 use Rattle.wire.specs.RowLaws.{lookup-under, under-below}
 
 -- ---- what is written of rows
@@ -119,115 +122,149 @@ module _ {K A : Type 0} (O : Order K) (key : Codec K) (value : Codec A) where
     row-span : Spans img here (key_bytes ++ record_bytes) (here + length (key_bytes ++ record_bytes))
     row-span = span-front (key_bytes ++ record_bytes) (bytes_of m) rows-span
 
-    module _ {o : Result (K × ℕ) Fault} (a : Reads img key.read here o) {x : K × ℕ} (d : K × ℕ) (z : x ≡ result_unwrap_or o d) where
-      key-read : x ≡ (r.0, here + length key_bytes)
-      key-read = value-is d (span-reads key (span-front key_bytes record_bytes row-span) c.fit.0.0 a) z
+    module _ {o : Result (Ordering × ℕ) Fault} (a : Reads img (compared O key i) here o) where
+      key-read : o ≡ Ok (O.cmp r.0 i, here + length key_bytes)
+      key-read =
+          let f = span-front key_bytes record_bytes row-span in
+          let back = ap (compared O key i) f.is ∙ rw (key.back r.0 (drop (here + length key_bytes) img) c.fit.0.0) in
+          reads-got img back f.within a
 
-      key-is : x.0 ≡ r.0
-      key-is = ap (λ (x : K × ℕ). x.0) key-read
+      module _ {order : Ordering} {place : ℕ} (d : o ≡ Ok (order, place)) where
+        order-is : O.cmp i r.0 ≡ reversed order
+        order-is = cmp-reversed O r.0 i ∙ ap (λ (x : Ordering × ℕ). reversed x.0) (same_Ok (sym key-read ∙ d))
 
-      start-at : x.1 ≡ here + length key_bytes
-      start-at = ap (λ (x : K × ℕ). x.1) key-read
+        place-is : place ≡ here + length key_bytes
+        place-is = ap (λ (x : Ordering × ℕ). x.1) (same_Ok (sym d ∙ key-read))
 
-      module _ {u : Result ℕ Fault} (p : Ends img value.read x.1 u) {next : ℕ} (dy : ℕ) (y : next ≡ result_unwrap_or u dy) where
-        record-past : Past img (here + length key_bytes) record_bytes (drop (here + length (key_bytes ++ record_bytes)) img) next
-        record-past =
-            let b = span-back key_bytes record_bytes row-span in
-            let q = ends-past value (here + length key_bytes) (omega (arith, b.ends, b.within)) c.fit.0.1 b.is (rw start-at at p) in
-            let n : next ≡ q.0 = value-is dy q.1 y in
-            rw n q.2
+        module _ {u : Result ℕ Fault} (p : Ends img value.read place u) where
+          abbrev RowPast : ℕ → Type 0
+          RowPast = Past img (here + length key_bytes) record_bytes (drop (here + length (key_bytes ++ record_bytes)) img)
 
-        row_ends : next ≡ here + length (key_bytes ++ record_bytes)
-        row_ends = omega (arith, record-past.spans.ends, length-append key_bytes record_bytes)
+          value-passed : (q : ℕ) × (u ≡ Ok q) × RowPast q
+          value-passed =
+              let b = span-back key_bytes record_bytes row-span in
+              ends-past value (here + length key_bytes) (omega (arith, b.ends, b.within)) c.fit.0.1 b.is (rw place-is at p)
 
-        row-to : Spans img here (key_bytes ++ record_bytes) next
-        row-to = rw row_ends row-span
+          module _ {next : ℕ} (y : u ≡ Ok next) where
+            record-past : RowPast next
+            record-past = let n : next ≡ value-passed.0 = same_Ok (sym y ∙ value-passed.1) in rw n value-passed.2
 
-        rest-to : Spans img next (bytes_of m) to
-        rest-to = rw row_ends (span-back (key_bytes ++ record_bytes) (bytes_of m) rows-span)
+            row_ends : next ≡ here + length (key_bytes ++ record_bytes)
+            row_ends = omega (arith, record-past.spans.ends, length-append key_bytes record_bytes)
 
-        record-span : Spans img x.1 record_bytes next
-        record-span = rw start-at record-past.spans
+            row-to : Spans img here (key_bytes ++ record_bytes) next
+            row-to = rw row_ends row-span
 
-        record-held : Holds img value.read (Some x.1) (Some r.1)
-        record-held = (drop next img, rw (start-at, record-past.spans.is) (value.back r.1 (drop next img) c.fit.0.1))
+            rest-to : Spans img next (bytes_of m) to
+            rest-to = rw row_ends (span-back (key_bytes ++ record_bytes) (bytes_of m) rows-span)
 
-  module _ {img : List ℕ} {first n : ℕ} {i : K} {here left : ℕ} (w : Cutting img first n i here left) (some_left : 0 < left)
-      {o : Result (K × ℕ) Fault} (a : Reads img key.read here o) {x : K × ℕ} (d : K × ℕ) (z : x ≡ result_unwrap_or o d) where
-    -- the key is below it
-    pub cut-over : O.cmp i x.0 ≡ Less → Cuts O key value img first n i (no_row n first here)
-    unfolding rows_below row_here rows_above
-    cut-over h = record { from = refl; counts = refl; cut = λ l to e f s. go l to e (w l to e f s).0 (w l to e f s).1 }
+            record-span : Spans img place record_bytes next
+            record-span = rw place-is record-past.spans
+
+            record-held : Holds img value.read (Some place) (Some r.1)
+            record-held = (drop next img, rw (place-is, record-past.spans.is) (value.back r.1 (drop next img) c.fit.0.1))
+
+  is_above : (o : Ordering) → is_gt o ≡ true → reversed o ≡ Less
+  is_above Less h = cc
+  is_above Equal h = cc
+  is_above Greater h = refl
+
+  is_here : (o : Ordering) → is_eq o ≡ true → reversed o ≡ Equal
+  is_here Less h = cc
+  is_here Equal h = refl
+  is_here Greater h = cc
+
+  is_below : (o : Ordering) → is_gt o ≡ false → is_eq o ≡ false → reversed o ≡ Greater
+  is_below Less h k = refl
+  is_below Equal h k = cc
+  is_below Greater h k = cc
+
+  never-err : {B : Type 0} {f : Fault} {x : B} {u : Result B Fault} → u ≡ Err f → u ≡ Ok x → ⊥
+  never-err d e = let z : ◌≡◌ {A = ℕ} 0 1 = cc in omega arith
+
+  module _ {img : List ℕ} {first n : ℕ} {i : K} {here left : ℕ} (w : Cutting img first n i here left) (some_left : 0 < left) where
+    -- what there is at any row that stands here
+    at-row : {r : Cut} → r.first ≡ first → r.count ≡ n
+        → ((l : List (K × A)) (to : ℕ) → n ≡ length l → (e : K × A) (m : List (K × A)) → Come img first i here left l to (e ∷ m)
+        → CutIs O key value img i l to r)
+        → Cuts O key value img first n i r
+    at-row {r} from counts h = record { from = from; counts = counts; cut = λ l to e f s. go l to e (w l to e f s).0 (w l to e f s).1 }
       where
-        go : (l : List (K × A)) (to : ℕ) → n ≡ length l → (rest : List (K × A)) → Come img first i here left l to rest
-            → CutIs O key value img i l to (no_row n first here)
+        go : (l : List (K × A)) (to : ℕ) → n ≡ length l → (rest : List (K × A)) → Come img first i here left l to rest → CutIs O key value img i l to r
         go l to e [] c = absurd (omega (arith, c.many))
-        go l to e (r ∷ m) c =
-            let v : O.cmp i r.0 ≡ Less = rw (← (key-is c a d z)) h in
-            ended e c (rw v) (rw v) (rw v)
+        go l to e (r ∷ m) c = h l to e r m c
 
-    module _ {u : Result ℕ Fault} (p : Ends img value.read x.1 u) {next : ℕ} (dy : ℕ) (y : next ≡ result_unwrap_or u dy) where
-      -- it is the key's
-      pub cut-found : O.cmp i x.0 ≡ Equal → Cuts O key value img first n i (record { count = n; first = first; row = here; after = next; place = Some x.1 })
-      unfolding rows_below row_here rows_above rows_bytes
-      cut-found h = record { from = refl; counts = refl; cut = λ l to e f s. go l to e (w l to e f s).0 (w l to e f s).1 }
-        where
-          go : (l : List (K × A)) (to : ℕ) → n ≡ length l → (rest : List (K × A)) → Come img first i here left l to rest
-              → CutIs O key value img i l to (record { count = n; first = first; row = here; after = next; place = Some x.1 })
-          go l to e [] c = absurd (omega (arith, c.many))
-          go l to e (r ∷ m) c =
-              let v : O.cmp i r.0 ≡ Equal = rw (← (key-is c a d z)) h in
-              record {
-                count = e;
-                below = rw (c.below, v, append-nil c.passed) c.before;
-                here = rw (c.own, v, append-nil (key_bytes c ++ record_bytes c)) (row-to c a d z p dy y);
-                above = rw (c.above, v) (rest-to c a d z p dy y);
-                holds = rw (c.own, v) (record-held c a d z p dy y);
-                stands = rw (c.own, v) (record-span c a d z p dy y);
-              }
+    module _ {o : Result (Ordering × ℕ) Fault} (a : Reads img (compared O key i) here o) where
+      -- a key that can't be read does not stand there
+      pub cut-unread : {f : Fault} → o ≡ Err f → Cuts O key value img first n i (no_row n first here)
+      cut-unread d = at-row refl refl (λ l to e r m c. absurd (never-err d (key-read c a)))
 
-      -- the key is above it
-      pub cut_on : O.cmp i x.0 ≡ Greater → Cutting img first n i next (left - 1)
-      unfolding rows_below row_here rows_above rows_bytes
-      cut_on h l to e f s = go (w l to e f s).0 (w l to e f s).1
-        where
-          go : (rest : List (K × A)) → Come img first i here left l to rest → (rest : List (K × A)) × Come img first i next (left - 1) l to rest
-          go [] c = absurd (omega (arith, c.many))
-          go (r ∷ m) c =
-              let v : O.cmp i r.0 ≡ Greater = rw (← (key-is c a d z)) h in (
-                m,
+      module _ {order : Ordering} {place : ℕ} (d : o ≡ Ok (order, place)) where
+        -- the key is below it
+        pub cut-over : is_gt order ≡ true → Cuts O key value img first n i (no_row n first here)
+        unfolding rows_below row_here rows_above
+        cut-over h = at-row refl refl (λ l to e r m c.
+            let v : O.cmp i r.0 ≡ Less = order-is c a d ∙ is_above order h in
+            ended e c (rw v) (rw v) (rw v))
+
+        module _ {u : Result ℕ Fault} (p : Ends img value.read place u) where
+          pub cut-stopped : {f : Fault} → u ≡ Err f → Cuts O key value img first n i (no_row n first here)
+          cut-stopped y = at-row refl refl (λ l to e r m c. absurd (never-err y (value-passed c a d p).1))
+
+          module _ {next : ℕ} (y : u ≡ Ok next) where
+            -- it is the key's
+            pub cut-found : is_eq order ≡ true
+                → Cuts O key value img first n i (record { count = n; first = first; row = here; after = next; place = Some place })
+            unfolding rows_below row_here rows_above rows_bytes
+            cut-found h = at-row refl refl (λ l to e r m c.
+                let v : O.cmp i r.0 ≡ Equal = order-is c a d ∙ is_here order h in
                 record {
-                  passed = c.passed ++ (r ∷ []);
-                  below = c.below ∙ rw v (sym (append_assoc c.passed (r ∷ []) (rows_below O i m)));
-                  own = c.own ∙ rw v;
-                  above = c.above ∙ rw v;
-                  before = rw (rows_append O key value c.passed (r ∷ []), append-nil (key_bytes c ++ record_bytes c))
-                      (span-both c.before (row-to c a d z p dy y));
-                  behind = rest-to c a d z p dy y;
-                  many = omega (arith, c.many);
-                  fit = c.fit.1;
-                },
-              )
+                  count = e;
+                  below = rw (c.below, v, append-nil c.passed) c.before;
+                  here = rw (c.own, v, append-nil (key_bytes c ++ record_bytes c)) (row-to c a d p y);
+                  above = rw (c.above, v) (rest-to c a d p y);
+                  holds = rw (c.own, v) (record-held c a d p y);
+                  stands = rw (c.own, v) (record-span c a d p y);
+                })
+
+            -- the key is above it
+            pub cut_on : is_gt order ≡ false → is_eq order ≡ false → Cutting img first n i next (left - 1)
+            unfolding rows_below row_here rows_above rows_bytes
+            cut_on g h l to e f s = go (w l to e f s).0 (w l to e f s).1
+              where
+                go : (rest : List (K × A)) → Come img first i here left l to rest → (rest : List (K × A)) × Come img first i next (left - 1) l to rest
+                go [] c = absurd (omega (arith, c.many))
+                go (r ∷ m) c =
+                    let v : O.cmp i r.0 ≡ Greater = order-is c a d ∙ is_below order g h in (
+                      m,
+                      record {
+                        passed = c.passed ++ (r ∷ []);
+                        below = c.below ∙ rw v (sym (append_assoc c.passed (r ∷ []) (rows_below O i m)));
+                        own = c.own ∙ rw v;
+                        above = c.above ∙ rw v;
+                        before = rw (rows_append O key value c.passed (r ∷ []), append-nil (key_bytes c ++ record_bytes c))
+                            (span-both c.before (row-to c a d p y));
+                        behind = rest-to c a d p y;
+                        many = omega (arith, c.many);
+                        fit = c.fit.1;
+                      },
+                    )
 
   -- ---- the whole list
 
-  pub cut_list_lem : {img : List ℕ} {at : ℕ} {i : K} {r : Cut} {o : Result (ℕ × ℕ) Fault} {x : ℕ × ℕ}
-      → Reads img (number_read last_count) at o → x ≡ result_unwrap_or o (0, 0)
-      → Cuts O key value img x.1 x.0 i r → CutsList O key value img at i r
-  cut_list_lem {img} {at} {i} {r} {o} {x} a z c = record { few = rw c.counts (few o a z); cut = go }
+  pub cut_listed : {img : List ℕ} {at : ℕ} {i : K} {r : Cut} {x : Rows} → RowsAt img last_count at x
+      → Cuts O key value img x.first x.count i r → CutsList O key value img at i r
+  cut_listed {img} {at} {i} {r} {x} h c = record { few = rw c.counts h.few; cut = go }
     where
-      few : (o : Result (ℕ × ℕ) Fault) → Reads img (number_read last_count) at o → x ≡ result_unwrap_or o (0, 0) → x.0 ≤ last_count
-      few (Ok y) a z = let e : x.0 ≡ y.0 = cc in omega (arith, e, number-most a refl)
-      few (Err f) a z = let e : x.0 ≡ 0 = cc in omega (arith, e)
-
       go : (m : Map O A) (to : ℕ) → (listed O key value).Fits m → Spans img at ((listed O key value).write m) to → CutIs O key value img i m.rows to r
       go m to f s =
           let head = number_bytes (length m.rows) in
           let w : Spans img at (head ++ bytes_of m.rows) to = subst (λ (t : List ℕ). Spans img at (head ++ t) to) (chain-rows O key value None m.rows) s in
-          let k = span-reads (number_to last_count refl) (span-front head (bytes_of m.rows) w) (omega (arith, f.count)) a in
-          let e : x ≡ (length m.rows, at + length head) = value-is (0, 0) k z in
-          let e0 : x.0 ≡ length m.rows = ap (λ (x : ℕ × ℕ). x.0) e in
-          let e1 : x.1 ≡ at + length head = ap (λ (x : ℕ × ℕ). x.1) e in
+          let o = rows-read h in
+          let k = span-reads (number_to last_count refl) (span-front head (bytes_of m.rows) w) (omega (arith, f.count)) o.1 in
+          let e : (x.count, x.first) ≡ (length m.rows, at + length head) = value-is (0, 0) k o.2 in
+          let e0 : x.count ≡ length m.rows = ap (λ (x : ℕ × ℕ). x.0) e in
+          let e1 : x.first ≡ at + length head = ap (λ (x : ℕ × ℕ). x.1) e in
           c.cut m.rows to e0 f.each (rw e1 (span-back head (bytes_of m.rows) w))
 
 -- ---- how many rows there are
@@ -294,33 +331,3 @@ put_same {K} {A} O k o m e = map-ext O (put O k o m) m (λ j. get-put O j k o m 
     go j Less h = refl
     go j Equal h = sym e ∙ ap (λ (x : K). get O x m) (sym (O.same j k h))
     go j Greater h = refl
-
--- ---- a row that cannot be read does not stand there
-
-module _ {K A : Type 0} (O : Order K) (key : Codec K) (value : Codec A) {img : List ℕ} {first n : ℕ} {i : K}
-    {here left : ℕ} (w : Cutting O key value img first n i here left)
-    (some_left : 0 < left) {o : Result (K × ℕ) Fault} (a : Reads img key.read here o) where
-  nowhere : ((l rest : List (K × A)) (to : ℕ) (r : K × A) → Come O key value img first i here left l to (r ∷ rest) → ⊥)
-      → Cuts O key value img first n i (no_row O key value n first here)
-  nowhere h = record { from = refl; counts = refl; cut = λ l to e f s. go l to (w l to e f s).0 (w l to e f s).1 }
-    where
-      go : (l : List (K × A)) (to : ℕ) (rest : List (K × A)) → Come O key value img first i here left l to rest
-          → CutIs O key value img i l to (no_row O key value n first here)
-      go l to [] c = absurd (omega (arith, c.many))
-      go l to (r ∷ m) c = absurd (h l m to r c)
-
-  never-err : {B : Type 0} {f : Fault} {x : B} {u : Result B Fault} → u ≡ Err f → u ≡ Ok x → ⊥
-  never-err d e = let z : ◌≡◌ {A = ℕ} 0 1 = cc in omega arith
-
-  -- the key
-  pub cut-unread : {f : Fault} → o ≡ Err f → Cuts O key value img first n i (no_row O key value n first here)
-  cut-unread d = nowhere (λ l m to r c. never-err d (span-reads key (span-front (key.write r.0) (value.write r.1) (row-span O key value c)) c.fit.0.0 a))
-
-  -- what stands under it
-  pub cut-stopped : {x : K × ℕ} {f : Fault} {u : Result ℕ Fault} → o ≡ Ok x → Ends img value.read x.1 u → u ≡ Err f
-      → Cuts O key value img first n i (no_row O key value n first here)
-  cut-stopped {x} e p d = nowhere (λ l m to r c.
-      let z : x ≡ result_unwrap_or o x = rw e in
-      let b = span-back (key.write r.0) (value.write r.1) (row-span O key value c) in
-      let q = ends-past value (here + length (key.write r.0)) (omega (arith, b.ends, b.within)) c.fit.0.1 b.is (rw (start-at O key value c a x z) at p) in
-      never-err d q.1)

@@ -2,6 +2,7 @@
 use Rattle.std.specs.Prelude.{◌≡◌, Bool, true, false, List, [], ◌∷◌, ◌++◌, ℕ, ◌+◌, ◌-◌, ◌≤◌, length, None, Option, Some}
 use Rattle.std.specs.declared.cmp.Ordering.{Ordering}
 use Rattle.std.specs.declared.cmp.Ordering.TheVariants.{Less, Equal, Greater}
+use Rattle.wire.specs.Parse.{Parsed, got, bind}
 use Rattle.wire.specs.Order.{Order}
 use Rattle.wire.specs.Orders.{by_number}
 use Rattle.wire.specs.Codec.{Codec}
@@ -36,6 +37,10 @@ module _ {K A : Type 0} (key : Codec K) (value : Codec A) where
   unfoldable pub rows_bytes : List (K × A) → List ℕ
   rows_bytes [] = []
   rows_bytes (e ∷ l) = (key.write e.0 ++ value.write e.1) ++ rows_bytes l
+
+-- how a key stands to k, read where the key stands
+abbrev pub compared : {K : Type 0} → Order K → Codec K → K → List ℕ → Parsed Ordering
+compared O key k s = bind (key.read s) (λ j r. got (O.cmp j k) r)
 
 -- how many rows there are, once the key has one or none
 abbrev pub count_after : ℕ → Option ℕ → Bool → ℕ

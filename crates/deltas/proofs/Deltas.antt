@@ -1,9 +1,7 @@
 -- How records are read by value.
 -- Assumes nothing.
 use Rattle.std.specs.Prelude.{Result, Ok, Err, Option, None, Some}
-use Rattle.std.specs.Option.{option_map}
-use Rattle.std.proofs.lemmas.Iterator.Adapters.{option_map_id}
-use mathlib.Core.Path.{◌≡◌, refl, ap}
+use mathlib.Core.Path.{◌≡◌, ap}
 use mathlib.Core.List.{List}
 use Prim.Native.Nat.{ℕ, ◌+◌}
 use native.Mathlib.Omega.{arith}
@@ -11,41 +9,25 @@ use lib.ListN.{length, length-append, length-drop}
 use Rattle.wire.specs.declared.fault.Fault.{Fault}
 use Rattle.wire.specs.declared.part.Part.{Part}
 use Rattle.wire.specs.Parse.{Parsed, got, bind, bind-bind}
-use Rattle.wire.specs.Number.{edge, number_read, number_small}
+use Rattle.wire.specs.Number.{number_small}
 use Rattle.wire.specs.Reading.{Reads, meant}
 use Rattle.wire.proofs.Readers.{read-then, read-stop, read-end}
 use Rattle.image.specs.declared.kind.FileType.{FileType}
-use Rattle.image.specs.declared.name.Under.TheVariants.{Inode, Nothing}
-use Rattle.image.specs.Meaning.{Kind, directory, Record, delta}
+use Rattle.image.specs.Meaning.{Kind, Record, delta}
 use Rattle.image.specs.FileTypes.{kind_meant, code_meant}
 use Rattle.image.specs.RecordLayout.{fields, ChangePart, change_of, change_part, code_part, record_at, layer_record}
 use Rattle.image.specs.KindLayout.{code, code_number, code-small}
-use Rattle.image.specs.Places.{maybe_read}
 use Rattle.nodes.specs.Fields.{holds_if, ReadsAs}
 use Rattle.nodes.specs.Options.{Inside, InsideIf}
-use Rattle.nodes.specs.Listed.{ReadsNames}
 use Rattle.nodes.specs.Attrs.{fields_meant, ReadsAttr}
 use Rattle.deltas.specs.Deltas.{attr_of, change_meant, delta_meant, ChangeListed, ReadsDelta, ReadsEntry}
 use Rattle.nodes.specs.declared.attr.AttrDelta.{AttrDelta}
-use Rattle.deltas.specs.declared.delta.DirectoryDelta.{DirectoryDelta}
 use Rattle.deltas.specs.declared.delta.NodeDelta.{NodeDelta}
 use Rattle.deltas.specs.declared.delta.EntryDelta.{EntryDelta}
 use Rattle.deltas.specs.declared.delta.EntryDelta.TheVariants as E
-use Rattle.deltas.specs.declared.delta.NodeDelta.TheVariants.{Directory}
-use Rattle.nodes.proofs.Values.{reads_made, reads-pair, reads_first, reads_same}
+use Rattle.nodes.proofs.Values.{reads_made, reads_first, reads_same}
 use Rattle.nodes.proofs.Reading.{reads-length}
 use Rattle.image.proofs.OneForm.{code-one, fields-one}
-
--- the removed names come right after the added entries
-pub reads-directory : {img : List ℕ} {at m n next : ℕ} (d : DirectoryDelta) → Reads img (maybe_read (number_read edge)) at (Ok (option_map (λ n. n) d.parent, m))
-    → ReadsNames img Inode m (Ok (d.added, n)) → ReadsNames img Nothing n (Ok (d.removed, next)) → ReadsDelta img directory d.attr_delta at (Ok (Directory d, next))
-reads-directory {img} {n = n} d p a r =
-    let e : d.removed.start ≡ n = ap (λ (p : Part). p.start) r.place in
-    record {
-      reads = reads_made _ (λ x. delta (record { fields = fields_meant img d.attr_delta; change = change_of directory x })) (reads-pair _ _ (rw option_map_id at p) (reads-pair _ _ a.reads r.reads));
-      attr = refl;
-      listed = (rw e a.listed, r.listed);
-    }
 
 -- what a delta changes, where that is one field
 module _ {V : Type 0} {img : List ℕ} {k : Kind} {at : ℕ} {a : AttrDelta} {says : V → ChangePart k} {Holds : V → ℕ → Type 0} {o : Result (V × ℕ) Fault}
@@ -103,7 +85,8 @@ module _ {img : List ℕ} {at : ℕ} {o : Result (Option FileType × ℕ) Fault}
     module _ {t : FileType} (z : c ≡ Some t) {u : Result (AttrDelta × ℕ) Fault} (g : ReadsAttr img start u) where
       -- what comes after the code of a kind
       after-code : {r : Result (Record × ℕ) Fault}
-          → Reads img (λ s. bind ((code_part (Some (kind_meant t))).read s) (λ p t'. got (record_at (Some (kind_meant t)) p) t')) start r → Reads img parts_read at r
+          → Reads img (λ s. bind ((code_part (Some (kind_meant t))).read s) (λ p t'. got (record_at (Some (kind_meant t)) p) t')) start r → Reads img
+          parts_read at r
       after-code b = read-then _ (rw (d, z) at h) b
 
       pub fields-stop : {r : Result (EntryDelta × ℕ) Fault} {f : Fault} → u ≡ Err f → r ≡ Err f → ReadsEntry img at r
@@ -114,7 +97,8 @@ module _ {img : List ℕ} {at : ℕ} {o : Result (Option FileType × ℕ) Fault}
         change-stops b e =
             let i = rw y at g in
             let j = rw b at k in
-            stopped e (after-code (reads_first fields.read (change_part (kind_meant t)).read (λ x t'. got (record_at (Some (kind_meant t)) x) t') i.reads j.reads))
+            stopped e (after-code (reads_first fields.read (change_part (kind_meant t)).read (λ x t'. got (record_at (Some (kind_meant t)) x) t') i.reads
+            j.reads))
 
         pub reads-delta : {w : NodeDelta} {next : ℕ} → v ≡ Ok (w, next) → ReadsEntry img at (Ok (E.Node w, next))
         reads-delta {w} {next} b =
@@ -124,7 +108,9 @@ module _ {img : List ℕ} {at : ℕ} {o : Result (Option FileType × ℕ) Fault}
             let s : start ≡ at + 1 = code-byte l in
             let m : mid ≡ at + 1 + length (fields.write (fields_meant img a)) = omega (arith, reads-length fields fields-one l.within i.reads) in
             record {
-              reads = whole (after-code (reads_first fields.read (change_part (kind_meant t)).read (λ x t'. got (record_at (Some (kind_meant t)) x) t') i.reads j.reads));
+              reads =
+                  whole (after-code (reads_first fields.read (change_part (kind_meant t)).read (λ x t'. got (record_at (Some (kind_meant t)) x) t') i.reads
+                  j.reads));
               attributes = rw j.attr (rw m at i.listed);
               lists = j.listed;
             }

@@ -46,8 +46,10 @@ module _ (keys : List ℕ) (P : NodeDelta → Type 0) where
 
 module _ (keys : List ℕ) (P : NodeKind → Type 0) where
   pub one-kind : Asked (has_key keys 0) ((parent : ℕ) (es : Part) → P (K.Directory parent es)) → Asked (has_key keys 1) ((size : ℕ) → P (K.File size))
-      → Asked (has_key keys 2) ((target : Part) → P (K.Symlink target)) → Asked (has_key keys 3) (P K.Fifo) → Asked (has_key keys 4) ((rdev : ℕ) → P (K.CharDevice rdev))
-      → Asked (has_key keys 5) ((rdev : ℕ) → P (K.BlockDevice rdev)) → Asked (has_key keys 6) (P K.Socket) → (k : NodeKind) → OneOf keys (tag_of kind.the_type k) → P k
+      → Asked (has_key keys 2) ((target : Part) → P (K.Symlink target)) → Asked (has_key keys 3) (P K.Fifo) → Asked (has_key keys 4)
+      ((rdev : ℕ) → P (K.CharDevice rdev))
+      → Asked (has_key keys 5) ((rdev : ℕ) → P (K.BlockDevice rdev)) → Asked (has_key keys 6) (P K.Socket) → (k : NodeKind) → OneOf keys
+      (tag_of kind.the_type k) → P k
   one-kind dir file link fifo char block sock (K.Directory parent es) h = asked keys 0 dir h parent es
   one-kind dir file link fifo char block sock (K.File size) h = asked keys 1 file h size
   one-kind dir file link fifo char block sock (K.Symlink target) h = asked keys 2 link h target
@@ -55,10 +57,6 @@ module _ (keys : List ℕ) (P : NodeKind → Type 0) where
   one-kind dir file link fifo char block sock (K.CharDevice rdev) h = asked keys 4 char h rdev
   one-kind dir file link fifo char block sock (K.BlockDevice rdev) h = asked keys 5 block h rdev
   one-kind dir file link fifo char block sock K.Socket h = asked keys 6 sock h
-
--- all but a directory, and all but a symlink
-abbrev pub not_directory : List ℕ
-not_directory = 1 ∷ 2 ∷ 3 ∷ 4 ∷ 5 ∷ 6 ∷ []
 
 abbrev pub not_symlink : List ℕ
 not_symlink = 0 ∷ 1 ∷ 3 ∷ 4 ∷ 5 ∷ 6 ∷ []

@@ -8,12 +8,12 @@ ghost use Rattle.overlay.specs.Altered.{Alters};
 ghost use Rattle.directory.specs.Entries.{stamped_of, SetsName, ChangesName};
 
 use crate::name::with_row;
-use change::cut::cut_records;
+use change::cut::{RecordOf, cut_at};
 use change::section::{Sections, open_sections};
 use image::name::Under;
 use nodes::attr::AttrDelta;
 use overlay::delta::live_directory;
-use overlay::list::{NewRow, kept};
+use overlay::list::{Copied, NewRow, kept};
 use overlay::record::{NewDirectory, NewRecord};
 use overlay::write::{NewLive, replaced, unchanged, write_record};
 use stack::name::bad_name;
@@ -75,7 +75,12 @@ fn change_name(
         return Err(Refusal::BadArgument);
     }
     let new = with_name(img, sections, ino, name, time, added, removed);
-    write_record(img, name, name, sections, new, target)
+    let copied = Copied {
+        img,
+        given: name,
+        new_name: name,
+    };
+    write_record(copied, sections, new, target)
 }
 
 // The image with another row of the name's in added, and in removed.
@@ -90,7 +95,7 @@ fn with_name(
 ) -> NewLive
     ensures { SetsName img.now sections ino name.now time added removed result }
 {
-    let cut = cut_records(img, sections.live, ino);
+    let cut = cut_at(img, sections.live, &RecordOf { ino });
     match live_directory(img, cut.place) {
         Some(delta) => {
             let directory = NewDirectory {
@@ -127,14 +132,19 @@ pub fn update_dir_parent(
 {
     let sections = open_sections(img)?;
     let new = with_parent(img, sections, ino, parent);
-    write_record(img, img, img, sections, new, target)
+    let copied = Copied {
+        img,
+        given: img,
+        new_name: img,
+    };
+    write_record(copied, sections, new, target)
 }
 
 // The image with another parent of the live directory.
 fn with_parent(img: &[u8], sections: Sections, ino: u64, parent: u64) -> NewLive
     ensures { Alters img.now img.now img.now sections ino (on_directory (setting_parent parent)) result }
 {
-    let cut = cut_records(img, sections.live, ino);
+    let cut = cut_at(img, sections.live, &RecordOf { ino });
     match live_directory(img, cut.place) {
         Some(delta) => {
             let directory = NewDirectory {

@@ -3,20 +3,49 @@ ghost use Rattle.std.specs.Prelude.{◌≤◌, ◌≡◌};
 ghost use Rattle.wire.specs.Lists.{last_count};
 ghost use Rattle.wire.specs.Orders.{by_bytes};
 ghost use Rattle.image.specs.FieldLayout.{name as nameText};
-ghost use Rattle.image.specs.Under.{under};
-ghost use Rattle.change.specs.Cuts.{Cuts, CutsList};
+ghost use Rattle.image.specs.Meaning.{Text};
+ghost use Rattle.image.specs.Under.{UnderName, under};
+ghost use Rattle.change.specs.Cuts.{compared};
 ghost use Rattle.directory.specs.Entries.{has_row, stays_absent, changed_rows, cut_list, RowChanged};
 
-use change::cut::{Cut, count_after};
-use image::field::LAST_WORD;
-use image::name::{Under, pass_under};
+use change::cut::{Cut, Sought, count_after, cut_at};
+use image::name::{Under, pass_under, read_name};
 use overlay::list::{Gap, NewList, NewRow, NewRows, kept};
 use std::cmp::Ordering;
-use wire::number::read_number;
+use wire::fault::Fault;
 use wire::order::compare_part;
 use wire::part::Part;
 use wire::put::advance;
-use wire::text::read_text;
+
+// The row of a name, in a list of this sort.
+#[derive(Clone, Copy)]
+pub struct RowOf<'a> {
+    pub what: Under,
+    pub name: &'a [u8],
+}
+
+impl Sought for RowOf<'_> {
+    ghost Key = { Text };
+
+    ghost Value = { λ row. UnderName row.what };
+
+    ghost order = { by_bytes };
+
+    ghost key = { nameText };
+
+    ghost value = { λ row. under row.what };
+
+    ghost wanted = { λ row. row.name.now };
+
+    fn compare(&self, img: &[u8], at: usize) -> Result<(Ordering, usize), Fault> {
+        let (name, next) = read_name(img, at)?;
+        Ok((compare_part(img, name, self.name), next))
+    }
+
+    fn pass(&self, img: &[u8], at: usize) -> Result<usize, Fault> {
+        pass_under(img, at, self.what)
+    }
+}
 
 // The list with the row of a name as it is to be.
 pub fn with_row(img: &[u8], list: Option<Part>, what: Under, name: &[u8], new: NewRow) -> NewList
@@ -24,7 +53,7 @@ pub fn with_row(img: &[u8], list: Option<Part>, what: Under, name: &[u8], new: N
 {
     match list {
         Some(rows) => {
-            let cut = cut_names(img, rows.start, what, name);
+            let cut = cut_at(img, rows.start, &RowOf { what, name });
             with_cut(list, cut, advance(rows.start, rows.length), new)
         }
         None => {
@@ -75,62 +104,11 @@ fn changed_rows(cut: Cut, end: usize, new: NewRow) -> NewRows
 fn stays_absent(place: Option<usize>, new: NewRow) -> bool
     ensures { result ≡ stays_absent place new }
 {
-    match place {
-        Some(_) => false,
-        None => !has_row(new),
-    }
+    place.is_none() && !has_row(new)
 }
 
 fn has_row(new: NewRow) -> bool
     ensures { result ≡ has_row new }
 {
-    match new {
-        NewRow::Absent => false,
-        NewRow::Name => true,
-        NewRow::Entry(_) => true,
-    }
-}
-
-// The rows of a list, its count first.
-pub fn cut_names(img: &[u8], at: usize, what: Under, name: &[u8]) -> Cut
-    ensures { CutsList by_bytes nameText (under what) img.now at name.now result }
-{
-    let (count, first) = read_number(img, at, LAST_WORD).unwrap_or((0, 0));
-    cut_named(img, first, count, what, name)
-}
-
-// `count` rows from `first` on.
-fn cut_named(img: &[u8], first: usize, count: u64, what: Under, name: &[u8]) -> Cut
-    ensures { Cuts by_bytes nameText (under what) img.now first count name.now result }
-{
-    let mut row = first;
-    for _ in 0..count {
-        let Ok((text, start)) = read_text(img, row, 1, 255) else {
-            break;
-        };
-        let Ok(after) = pass_under(img, start, what) else {
-            break;
-        };
-        match compare_part(img, text, name) {
-            Ordering::Less => {}
-            Ordering::Equal => {
-                return Cut {
-                    count,
-                    first,
-                    row,
-                    after,
-                    place: Some(start),
-                };
-            }
-            Ordering::Greater => break,
-        }
-        row = after;
-    }
-    Cut {
-        count,
-        first,
-        row,
-        after: row,
-        place: None,
-    }
+    !matches!(new, NewRow::Absent)
 }

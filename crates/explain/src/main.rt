@@ -16,8 +16,8 @@ use show::{write_answer, write_base, write_label, write_question, write_record, 
 use stack::name::open_named;
 use stack::stack::Stack;
 use std::env::FillError;
-use std::io;
 use std::rt::Env;
+use std::{io, str};
 use trace::said::deciding;
 
 fn main(rt: HostRuntime) -> io::Result<()> {
@@ -36,10 +36,7 @@ fn main(rt: HostRuntime) -> io::Result<()> {
 // Whether the program was given an argument of this number; of any length.
 fn has_argument(rt: &impl Env, number: usize) -> bool {
     let found = rt.arg(number, &mut []);
-    match found {
-        Err(FillError::NotPresent) => false,
-        _ => true,
-    }
+    !matches!(found, Err(FillError::NotPresent))
 }
 
 fn complain(rt: &impl Eprint, what: &str) -> io::Result<()> {
@@ -50,19 +47,12 @@ fn complain(rt: &impl Eprint, what: &str) -> io::Result<()> {
     )
 }
 
-// The number that the digits make, if there are only digits, at least one, and 64 bits hold it.
+// The number that the digits make, if there are only digits, at least one, and 64 bits hold it. `parse` would take a sign.
 fn read_decimal(text: &[u8]) -> Option<u64> {
-    if text.is_empty() {
+    if !text.iter().all(|byte| byte.is_ascii_digit()) {
         return None;
     }
-    let mut sum: u64 = 0;
-    for byte in text {
-        if !byte.is_ascii_digit() {
-            return None;
-        }
-        sum = sum.checked_mul(10)?.checked_add((*byte - b'0') as u64)?;
-    }
-    Some(sum)
+    str::from_utf8(text).ok()?.parse::<u64>().ok()
 }
 
 fn explain_name(rt: &HostRuntime, ino: u64) -> io::Result<()> {
@@ -98,14 +88,12 @@ fn write_layers(
     name: &[u8],
     labels: Labels,
     decides: usize,
-) -> io::Result<()>
-    requires { labels.batches ≤ 16 }
-{
+) -> io::Result<()> {
     let mut left = stack.places.count;
     for layer in (0..=labels.batches).rev() {
-        write_label(rt, labels, layer)?;
-        let place = labels.layers[layer].place;
-        left = write_layer(rt, stack, name, place, left, decides)?;
+        let label = labels.layers[layer];
+        write_label(rt, label)?;
+        left = write_layer(rt, stack, name, label.place, left, decides)?;
     }
     Ok(())
 }

@@ -1,7 +1,7 @@
 // The lines of an explanation.
 ghost use Rattle.std.specs.Prelude.{◌<◌};
 
-use crate::label::Labels;
+use crate::label::Label;
 use image::kind::FileType;
 use stack::file_type::{base_type, entry_type};
 use stack::stack::Stack;
@@ -34,24 +34,10 @@ pub fn write_answer(rt: &impl Print, answer: Result<Option<u64>, Refusal>) -> io
     }
 }
 
-pub fn write_label(rt: &impl Print, labels: Labels, layer: usize) -> io::Result<()>
-    requires { layer < 17 }
-{
-    if layer == labels.batches {
-        return print!(rt; "live: ");
-    }
-    print!(rt; "batch {}: ", labels.layers[layer].id)
-}
-
-fn type_name(file_type: FileType) -> &'static str {
-    match file_type {
-        FileType::Directory => "directory",
-        FileType::RegularFile => "file",
-        FileType::Symlink => "symlink",
-        FileType::NamedPipe => "pipe",
-        FileType::CharDevice => "character device",
-        FileType::BlockDevice => "block device",
-        FileType::Socket => "socket",
+pub fn write_label(rt: &impl Print, label: Label) -> io::Result<()> {
+    match label.id {
+        Some(id) => print!(rt; "batch {id}: "),
+        None => print!(rt; "live: "),
     }
 }
 
@@ -83,11 +69,10 @@ pub fn write_record(
 }
 
 fn write_delta(rt: &impl Print, file_type: FileType, said: Said) -> io::Result<()> {
-    let kind = type_name(file_type);
     match said {
-        Said::Nothing => print!(rt; "{kind} delta, does not name it"),
-        Said::NoChild => print!(rt; "{kind} delta, {}", no_child(file_type)),
-        Said::Child(inode) => print!(rt; "{kind} delta, adds it as {inode}"),
+        Said::Nothing => print!(rt; "{file_type} delta, does not name it"),
+        Said::NoChild => print!(rt; "{file_type} delta, {}", no_child(file_type)),
+        Said::Child(inode) => print!(rt; "{file_type} delta, adds it as {inode}"),
     }
 }
 
@@ -104,10 +89,9 @@ pub fn write_base(rt: &impl Print, stack: Stack, name: &[u8], decides: bool) -> 
 }
 
 fn write_node(rt: &impl Print, file_type: FileType, said: Said) -> io::Result<()> {
-    let kind = type_name(file_type);
     match said {
-        Said::Nothing => print!(rt; "{kind}, does not have it"),
-        Said::NoChild => print!(rt; "{kind}, has no entries"),
-        Said::Child(inode) => print!(rt; "{kind}, has it as {inode}"),
+        Said::Nothing => print!(rt; "{file_type}, does not have it"),
+        Said::NoChild => print!(rt; "{file_type}, has no entries"),
+        Said::Child(inode) => print!(rt; "{file_type}, has it as {inode}"),
     }
 }

@@ -24,7 +24,8 @@ use Rattle.ffi.specs.Replies.{ChangeReplies, reply_of, change_reply, TextReplies
 
 -- ---- changes
 
-pub change-replied : {def : Answer (List ℕ)} {old new : List ℕ} {a : Result ℕ Refusal} {r : ChangeReply} → Changes def old a new → r ≡ reply_of (numbered a) → ChangeReplies def old r new
+pub change-replied : {def : Answer (List ℕ)} {old new : List ℕ} {a : Result ℕ Refusal} {r : ChangeReply} → Changes def old a new → r ≡ reply_of (numbered a) →
+    ChangeReplies def old r new
 change-replied {def} w e = record { replies = e ∙ ap reply_of w.answers ∙ same def; leaves = w.leaves }
   where
     same : (d : Answer (List ℕ)) → reply_of (answered d) ≡ change_reply d

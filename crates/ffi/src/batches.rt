@@ -6,7 +6,7 @@ ghost use Rattle.rules.specs.Initial.{usual};
 ghost use Rattle.rules.specs.ChangeCalls.{freeze_live, fold_entries, pop_flushed_batch, record_mutation, request_freeze, snapshot_all};
 ghost use Rattle.ffi.specs.Replies.{ChangeReplies, time_given};
 
-use crate::reply::{ChangeReply, change_reply, time_given};
+use crate::reply::{ChangeReply, time_given};
 use flush::flush::{fold_entries, snapshot_all};
 use queue::queue::{freeze_live, pop_flushed_batch, record_mutation, request};
 
@@ -24,7 +24,7 @@ pub extern "C" fn appendfs_freeze_live(
     ensures { ChangeReplies (freeze_live usual img.now depth bytes operations (time_given seconds nanos) (length target.old)) target.old result target.new }
 {
     let time = time_given(seconds, nanos);
-    change_reply(freeze_live(img, depth, bytes, operations, time, target))
+    ChangeReply::from(freeze_live(img, depth, bytes, operations, time, target))
 }
 
 // Applies the front batch to the base.
@@ -32,7 +32,7 @@ pub extern "C" fn appendfs_freeze_live(
 pub extern "C" fn appendfs_fold_entries(img: &[u8], target: &mut [u8]) -> ChangeReply
     ensures { ChangeReplies (fold_entries usual img.now (length target.old)) target.old result target.new }
 {
-    change_reply(fold_entries(img, target))
+    ChangeReply::from(fold_entries(img, target))
 }
 
 // Drops the front batch, whose id it must be.
@@ -44,7 +44,7 @@ pub extern "C" fn appendfs_pop_flushed_batch(
 ) -> ChangeReply
     ensures { ChangeReplies (pop_flushed_batch usual img.now batch_id (length target.old)) target.old result target.new }
 {
-    change_reply(pop_flushed_batch(img, batch_id, target))
+    ChangeReply::from(pop_flushed_batch(img, batch_id, target))
 }
 
 // Stages one operation more, and so many bytes.
@@ -56,7 +56,7 @@ pub extern "C" fn appendfs_record_mutation(
 ) -> ChangeReply
     ensures { ChangeReplies (record_mutation usual img.now additional_bytes (length target.old)) target.old result target.new }
 {
-    change_reply(record_mutation(img, additional_bytes, target))
+    ChangeReply::from(record_mutation(img, additional_bytes, target))
 }
 
 // Requests a freeze, for a reason from 1 to 5; 0 takes a request back. C gives a number.
@@ -64,7 +64,7 @@ pub extern "C" fn appendfs_record_mutation(
 pub extern "C" fn appendfs_request(img: &[u8], reason: u64, target: &mut [u8]) -> ChangeReply
     ensures { ChangeReplies (request_freeze usual img.now reason (length target.old)) target.old result target.new }
 {
-    change_reply(request(img, reason, target))
+    ChangeReply::from(request(img, reason, target))
 }
 
 // Folds every layer into the base, and drops non-directories with 0 links.
@@ -72,5 +72,5 @@ pub extern "C" fn appendfs_request(img: &[u8], reason: u64, target: &mut [u8]) -
 pub extern "C" fn appendfs_snapshot_all(img: &[u8], target: &mut [u8]) -> ChangeReply
     ensures { ChangeReplies (snapshot_all usual img.now (length target.old)) target.old result target.new }
 {
-    change_reply(snapshot_all(img, target))
+    ChangeReply::from(snapshot_all(img, target))
 }

@@ -6,7 +6,7 @@ ghost use Rattle.rules.specs.Initial.{usual};
 ghost use Rattle.rules.specs.ChangeCalls.{insert_new_node, tombstone as tombstoned, add_dir_entry, remove_dir_entry, update_dir_parent, update_attr_delta, normalize_directory_deltas};
 ghost use Rattle.ffi.specs.Replies.{ChangeReplies, time_given};
 
-use crate::reply::{ChangeReply, change_reply, time_given};
+use crate::reply::{ChangeReply, time_given};
 use directory::directory::{add_dir_entry, remove_dir_entry, update_dir_parent};
 use normalize::normalize::normalize_directory_deltas;
 use overlay::live::{insert_new_node, tombstone};
@@ -22,7 +22,7 @@ pub extern "C" fn appendfs_insert_new_node(
 ) -> ChangeReply
     ensures { ChangeReplies (insert_new_node usual img.now ino delta.now (length target.old)) target.old result target.new }
 {
-    change_reply(insert_new_node(img, ino, delta, target))
+    ChangeReply::from(insert_new_node(img, ino, delta, target))
 }
 
 // Puts a tombstone in the place of the live record.
@@ -30,7 +30,7 @@ pub extern "C" fn appendfs_insert_new_node(
 pub extern "C" fn appendfs_tombstone(img: &[u8], ino: u64, target: &mut [u8]) -> ChangeReply
     ensures { ChangeReplies (tombstoned usual img.now ino (length target.old)) target.old result target.new }
 {
-    change_reply(tombstone(img, ino, target))
+    ChangeReply::from(tombstone(img, ino, target))
 }
 
 // Adds a name to the live directory delta.
@@ -47,7 +47,7 @@ pub extern "C" fn appendfs_add_dir_entry(
     ensures { ChangeReplies (add_dir_entry usual img.now ino name.now inode (time_given seconds nanos) (length target.old)) target.old result target.new }
 {
     let time = time_given(seconds, nanos);
-    change_reply(add_dir_entry(img, ino, name, inode, time, target))
+    ChangeReply::from(add_dir_entry(img, ino, name, inode, time, target))
 }
 
 // Removes a name from the live directory delta.
@@ -63,7 +63,7 @@ pub extern "C" fn appendfs_remove_dir_entry(
     ensures { ChangeReplies (remove_dir_entry usual img.now ino name.now (time_given seconds nanos) (length target.old)) target.old result target.new }
 {
     let time = time_given(seconds, nanos);
-    change_reply(remove_dir_entry(img, ino, name, time, target))
+    ChangeReply::from(remove_dir_entry(img, ino, name, time, target))
 }
 
 // Sets the parent in the live directory delta.
@@ -76,7 +76,7 @@ pub extern "C" fn appendfs_update_dir_parent(
 ) -> ChangeReply
     ensures { ChangeReplies (update_dir_parent usual img.now ino parent (length target.old)) target.old result target.new }
 {
-    change_reply(update_dir_parent(img, ino, parent, target))
+    ChangeReply::from(update_dir_parent(img, ino, parent, target))
 }
 
 // Merges a mask and its fields into the live delta.
@@ -89,7 +89,7 @@ pub extern "C" fn appendfs_update_attr_delta(
 ) -> ChangeReply
     ensures { ChangeReplies (update_attr_delta usual img.now ino delta.now (length target.old)) target.old result target.new }
 {
-    change_reply(update_attr_delta(img, ino, delta, target))
+    ChangeReply::from(update_attr_delta(img, ino, delta, target))
 }
 
 // Holds the directory deltas of the layer at a position against the layers below.
@@ -101,5 +101,5 @@ pub extern "C" fn appendfs_normalize_directory_deltas(
 ) -> ChangeReply
     ensures { ChangeReplies (normalize_directory_deltas usual img.now position (length target.old)) target.old result target.new }
 {
-    change_reply(normalize_directory_deltas(img, position, target))
+    ChangeReply::from(normalize_directory_deltas(img, position, target))
 }

@@ -90,90 +90,100 @@ pub struct ChangeReply {
     pub length: usize,
 }
 
-pub fn yes_no_reply(answer: Result<bool, Refusal>) -> YesNoReply
-    ensures { result ≡ yes_no_reply (answered (λ yes. yes) answer) }
-{
-    match answer {
-        Ok(yes) => YesNoReply { refusal: 0, yes },
-        Err(refusal) => YesNoReply {
-            refusal: refusal.number(),
-            yes: false,
-        },
+impl From<Result<bool, Refusal>> for YesNoReply {
+    ghost from_gives = { λ answer reply. reply ≡ yes_no_reply (answered (λ yes. yes) answer) };
+
+    fn from(answer: Result<bool, Refusal>) -> YesNoReply {
+        match answer {
+            Ok(yes) => YesNoReply { refusal: 0, yes },
+            Err(refusal) => YesNoReply {
+                refusal: refusal.number(),
+                yes: false,
+            },
+        }
     }
 }
 
-pub fn type_reply(answer: Result<Option<FileType>, Refusal>) -> TypeReply
-    ensures { result ≡ type_reply (answered type_of answer) }
-{
-    match answer {
-        Ok(Some(kind)) => TypeReply {
-            refusal: 0,
-            found: true,
-            kind: kind as u32,
-        },
-        Ok(None) => TypeReply {
-            refusal: 0,
-            found: false,
-            kind: 0,
-        },
-        Err(refusal) => TypeReply {
-            refusal: refusal.number(),
-            found: false,
-            kind: 0,
-        },
+impl From<Result<Option<FileType>, Refusal>> for TypeReply {
+    ghost from_gives = { λ answer reply. reply ≡ type_reply (answered type_of answer) };
+
+    fn from(answer: Result<Option<FileType>, Refusal>) -> TypeReply {
+        match answer {
+            Ok(Some(kind)) => TypeReply {
+                refusal: 0,
+                found: true,
+                kind: kind as u32,
+            },
+            Ok(None) => TypeReply {
+                refusal: 0,
+                found: false,
+                kind: 0,
+            },
+            Err(refusal) => TypeReply {
+                refusal: refusal.number(),
+                found: false,
+                kind: 0,
+            },
+        }
     }
 }
 
-pub fn inode_reply(answer: Result<Option<u64>, Refusal>) -> InodeReply
-    ensures { result ≡ inode_reply (answered (λ found. found) answer) }
-{
-    match answer {
-        Ok(Some(inode)) => InodeReply {
-            refusal: 0,
-            found: true,
-            inode,
-        },
-        Ok(None) => InodeReply {
-            refusal: 0,
-            found: false,
-            inode: 0,
-        },
-        Err(refusal) => InodeReply {
-            refusal: refusal.number(),
-            found: false,
-            inode: 0,
-        },
+impl From<Result<Option<u64>, Refusal>> for InodeReply {
+    ghost from_gives = { λ answer reply. reply ≡ inode_reply (answered (λ found. found) answer) };
+
+    fn from(answer: Result<Option<u64>, Refusal>) -> InodeReply {
+        match answer {
+            Ok(Some(inode)) => InodeReply {
+                refusal: 0,
+                found: true,
+                inode,
+            },
+            Ok(None) => InodeReply {
+                refusal: 0,
+                found: false,
+                inode: 0,
+            },
+            Err(refusal) => InodeReply {
+                refusal: refusal.number(),
+                found: false,
+                inode: 0,
+            },
+        }
     }
 }
 
-fn time_out(time: Time) -> Timestamp
-    ensures { result ≡ time_out time }
-{
-    Timestamp {
-        seconds: time.seconds,
-        nanos: time.nanos,
+impl From<Time> for Timestamp {
+    ghost from_gives = { λ time shown. shown ≡ time_out time };
+
+    fn from(time: Time) -> Timestamp {
+        Timestamp {
+            seconds: time.seconds,
+            nanos: time.nanos,
+        }
     }
 }
 
-fn attr_out(attr: FileAttr) -> Attr
-    ensures { result ≡ attr_out (attr_meant attr) }
-{
-    Attr {
-        ino: attr.ino,
-        kind: attr.file_type as u32,
-        perm: attr.perm,
-        nlink: attr.nlink,
-        uid: attr.uid,
-        gid: attr.gid,
-        rdev: attr.rdev,
-        size: attr.size,
-        atime: time_out(attr.atime),
-        mtime: time_out(attr.mtime),
-        ctime: time_out(attr.ctime),
+impl From<FileAttr> for Attr {
+    ghost from_gives = { λ attr shown. shown ≡ attr_out (attr_meant attr) };
+
+    fn from(attr: FileAttr) -> Attr {
+        Attr {
+            ino: attr.ino,
+            kind: attr.file_type as u32,
+            perm: attr.perm,
+            nlink: attr.nlink,
+            uid: attr.uid,
+            gid: attr.gid,
+            rdev: attr.rdev,
+            size: attr.size,
+            atime: Timestamp::from(attr.atime),
+            mtime: Timestamp::from(attr.mtime),
+            ctime: Timestamp::from(attr.ctime),
+        }
     }
 }
 
-// All fields 0.
+// All fields 0. It takes a number, as C has it: 0 where there is no refusal, which no `Refusal` has.
 fn no_attr(refusal: u32) -> AttrReply
     ensures { result ≡ no_attr refusal }
 {
@@ -201,21 +211,23 @@ fn no_attr(refusal: u32) -> AttrReply
     }
 }
 
-pub fn attr_reply(answer: Result<Option<FileAttr>, Refusal>) -> AttrReply
-    ensures { result ≡ attr_reply (answered attr_if answer) }
-{
-    match answer {
-        Ok(Some(attr)) => AttrReply {
-            refusal: 0,
-            found: true,
-            attr: attr_out(attr),
-        },
-        Ok(None) => no_attr(0),
-        Err(refusal) => no_attr(refusal.number()),
+impl From<Result<Option<FileAttr>, Refusal>> for AttrReply {
+    ghost from_gives = { λ answer reply. reply ≡ attr_reply (answered attr_if answer) };
+
+    fn from(answer: Result<Option<FileAttr>, Refusal>) -> AttrReply {
+        match answer {
+            Ok(Some(attr)) => AttrReply {
+                refusal: 0,
+                found: true,
+                attr: Attr::from(attr),
+            },
+            Ok(None) => no_attr(0),
+            Err(refusal) => no_attr(refusal.number()),
+        }
     }
 }
 
-// The empty part.
+// The empty part. It takes a number, as `no_attr` does.
 pub fn no_text(refusal: u32) -> TextReply
     ensures { result ≡ no_text refusal }
 {
@@ -255,18 +267,17 @@ pub fn time_given(seconds: i64, nanos: u32) -> Time
     Time { seconds, nanos }
 }
 
-// The length is 0.
-fn no_image(refusal: u32) -> ChangeReply
-    ensures { result ≡ reply_of (Err refusal) }
-{
-    ChangeReply { refusal, length: 0 }
-}
+// The length of a refusal is 0.
+impl From<Result<usize, Refusal>> for ChangeReply {
+    ghost from_gives = { λ answer reply. reply ≡ reply_of (numbered answer) };
 
-pub fn change_reply(answer: Result<usize, Refusal>) -> ChangeReply
-    ensures { result ≡ reply_of (numbered answer) }
-{
-    match answer {
-        Ok(length) => ChangeReply { refusal: 0, length },
-        Err(refusal) => no_image(refusal.number()),
+    fn from(answer: Result<usize, Refusal>) -> ChangeReply {
+        match answer {
+            Ok(length) => ChangeReply { refusal: 0, length },
+            Err(refusal) => ChangeReply {
+                refusal: refusal.number(),
+                length: 0,
+            },
+        }
     }
 }

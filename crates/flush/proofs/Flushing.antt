@@ -5,7 +5,7 @@ use Rattle.std.specs.Result.{result_err}
 use mathlib.Core.Path.{◌≡◌, refl, sym, ap, ◌∙◌}
 use mathlib.Core.Bool.{Bool, true, false, cond}
 use mathlib.Core.List.{List, [], ◌∷◌, append-nil}
-use Prim.Native.Nat.{ℕ, ◌+◌, min}
+use Prim.Native.Nat.{ℕ, ◌+◌, ◌≤◌, min}
 use native.Mathlib.Omega.{arith}
 use lib.ListN.{length, take, length-append, drop_of_length-le}
 use lib.Seq.{sets, take-length}
@@ -41,24 +41,27 @@ use Rattle.change.proofs.Queued.{stands-counted, stands-count}
 use Rattle.change.proofs.Sections.{span-part, span-both, span-reads, store_bytes, stands-fits}
 use Rattle.change.proofs.Finishing.{changes-refused, changes-made}
 use Rattle.change.proofs.Batches.{queue_bytes, batches-bytes}
-use Rattle.walk.specs.Opens.{OpensLayers, Over}
+use Rattle.walk.specs.Ready.{Ready}
+use Rattle.walk.specs.Opens.{LayersOf, OpensLayers, Over}
+use Rattle.walk.proofs.Opening.{count-layers}
 use Rattle.walk.specs.Walks.{stacks_left}
 use Rattle.walk.specs.declared.walk.Walk.{Walk}
 use Rattle.walk.specs.declared.open.Layers.{Layers}
-use Rattle.base.specs.Nodes.{nodes_of, PutsNodes, Few}
-use Rattle.base.specs.declared.node.Nodes.{Nodes}
+use Rattle.base.specs.Nodes.{nodes_of, PutsNodes}
+use Rattle.wire.specs.declared.put.Written.{Written}
 use Rattle.flush.specs.Flushes.{drops_of, rest_bytes, flushed}
 use Rattle.flush.specs.declared.write.Flush.{Flush}
 use Rattle.flush.specs.declared.write.Flush.TheVariants as F
-use Rattle.base.proofs.Bases.{base-written, walk-few, layers-count}
+use Rattle.base.proofs.Bases.{base-written}
 
 -- ---- the new image
 
 -- its nodes were counted and measured
-module _ (img : List ℕ) (w : Walk) (f : Flush) {d : Bool} (e : d ≡ drops_of f) {l m : List ℕ} {n : Nodes} (a : PutsNodes l 0 (nodes_of d (stacks_left img w)) n m) where
+module _ (w : Walk) (f : Flush) {d : Bool} (e : d ≡ drops_of f) {l m : List ℕ} {n : Written} (a : PutsNodes l 0 (nodes_of d (stacks_left w)) n m) where
   -- the rest measured
-  pub image-measured : {l₁ l₂ l₃ : List ℕ} {q p r : ℕ} → Put l₁ 0 (number_bytes n.count) q l₂ → p ≡ min (q + n.end) edge → Put l₂ p (rest_bytes img f) r l₃
-      → Put l 0 (flushed img w f) r (sets l 0 (flushed img w f))
+  pub image-measured : {l₁ l₂ l₃ : List ℕ} {q p r : ℕ} → Put l₁ 0 (number_bytes n.count) q l₂ → p ≡ min (q + n.end) edge
+      → Put l₂ p (rest_bytes w.img.now f) r l₃
+      → Put l 0 (flushed w f) r (sets l 0 (flushed w f))
   image-measured b k c = record {
     to =
         let first = rw (a.counts, e) at b.to in
@@ -69,13 +72,15 @@ module _ (img : List ℕ) (w : Walk) (f : Flush) {d : Bool} (e : d ≡ drops_of 
   }
 
   -- written
-  pub image-written : {l₁ l₂ l₃ l₄ : List ℕ} {q r : ℕ} {o : Nodes} → Put l₁ 0 (number_bytes n.count) q l₂ → PutsNodes l₂ q (nodes_of d (stacks_left img w)) o l₃ → Put l₃ o.end (rest_bytes img f) r l₄
-      → Put l₁ 0 (flushed img w f) r l₄
+  pub image-written : {l₁ l₂ l₃ l₄ : List ℕ} {q r : ℕ} {o : Written} → Put l₁ 0 (number_bytes n.count) q l₂
+      → PutsNodes l₂ q (nodes_of d (stacks_left w)) o l₃ → Put l₃ o.end (rest_bytes w.img.now f) r l₄
+      → Put l₁ 0 (flushed w f) r l₄
   image-written b c t = rw (← e) (put-append (put-append (rw a.counts at b) c.puts) t)
 
 -- ---- how a snapshot ends
 
-pub snapshot-unopened : {A : Type 0} (img : List ℕ) {old : List ℕ} {o : Result A Refusal} {e : Refusal} {r : Result ℕ Refusal} → result_err o ≡ verdict_of img → o ≡ Err e → r ≡ Err e
+pub snapshot-unopened : {A : Type 0} (img : List ℕ) {old : List ℕ} {o : Result A Refusal} {e : Refusal} {r : Result ℕ Refusal}
+    → result_err o ≡ verdict_of img → o ≡ Err e → r ≡ Err e
     → Changes (snapshot_all usual img (length old)) old r old
 unfolding new_image
 snapshot-unopened img {old} {e = e} v d z =
@@ -83,7 +88,8 @@ snapshot-unopened img {old} {e = e} v d z =
     rw z (record { answers = rw h; leaves = rw h })
 
 -- the new image, if there is room
-snapshot-fits : {img : List ℕ} {p : Sections} {s : Store} → Stands img p s → (room : ℕ) → snapshot_all usual img room ≡ if_fits (write_image (snapshot usual s)) room
+snapshot-fits : {img : List ℕ} {p : Sections} {s : Store} → Stands img p s → (room : ℕ)
+    → snapshot_all usual img room ≡ if_fits (write_image (snapshot usual s)) room
 unfolding new_image
 snapshot-fits {img} {p} {s} w room = over-fine _ img w.short w.is ∙ go (has_room room (snapshot usual s))
   where
@@ -108,49 +114,62 @@ module _ {img : List ℕ} {p : Sections} {s : Store} (w : Stands img p s) {o : R
   count-ok = rw (stands-counted w a) refl
 
   module _ {x : ℕ × ℕ} (c : o ≡ Ok x) where
+    opened : {m : ℕ} {r : Layers} → OpensLayers img p m r → m ≤ x.0 + 1 → LayersOf img s p.tail m r
+    opened l h = l.opens s w (omega (arith, h, stands-count w a c, count-layers s.batches s.live))
+
+    -- the runs of the layers that there are are a walk's
+    pub opened-ready : {m : ℕ} {r : Layers} → OpensLayers img p m r → m ≤ x.0 + 1 → Ready img r.runs
+    opened-ready l h = (opened l h).ready
+
+    -- a number holds the count of its stacks
+    pub opened-few : {m : ℕ} {r : Layers} → OpensLayers img p m r → m ≤ x.0 + 1 → (k : Walk) → k.img.now ≡ img → k.runs ≡ r.runs
+        → length (stacks_left k) ≤ edge
+    opened-few l h k image same = rw (image, same) (opened l h).few
+
     -- ---- "Fold applies the front batch to the base."
 
     pub fold-none : {old : List ℕ} → x.0 ≡ 0 → Changes (fold_entries usual img (length old)) old (Err D.NoBatch) old
     fold-none h = changes-refused Call.fold w (rw (drop_of_length-le s.batches {i = 0} (omega (arith, stands-count w a c, h))))
 
-    module _ {r : Layers} (l : OpensLayers img p 1 r) where
-      front-over : Over img s.base (take 1 (layers s)) r.walk
-      front-over = (l.opens s w (omega (arith, layers-count s.batches s.live))).over
-
-      pub fold-few : Few img r.walk
-      fold-few = walk-few s 1 (stands-fits w) front-over
+    module _ {r : Layers} (l : OpensLayers img p 1 r) (k : Walk) (image : k.img.now ≡ img) (same : k.runs ≡ r.runs) where
+      front-over : Over s.base (take 1 (layers s)) k
+      front-over = record { are = rw (image, same) ((opened l (omega arith)).are) }
 
       fold-base : (bs : List Batch) (live : Layer) → (length bs ≡ 0 → ⊥) → fold_all usual (take 1 (with_live bs live)) s.base ≡ fold_front usual bs s.base
       unfolding fold_all
       fold-base [] live h = absurd (h refl)
       fold-base (b ∷ bs) live h = refl
 
-      fold-bytes : (x.0 ≡ 0 → ⊥) → flushed img r.walk (F.Fold p.batches) ≡ write_image (set_base (fold_front usual s.batches s.base) s)
+      fold-bytes : (x.0 ≡ 0 → ⊥) → flushed k (F.Fold p.batches) ≡ write_image (set_base (fold_front usual s.batches s.base) s)
       fold-bytes h =
-          rw (base-written front-over false, span-part (span-both w.batches (span-both w.live w.tail)), store_bytes, fold-base s.batches s.live (λ z. h (stands-count w a c ∙ z)))
+          rw (
+            base-written front-over false,
+            image,
+            span-part (span-both w.batches (span-both w.live w.tail)),
+            store_bytes,
+            fold-base s.batches s.live (λ z. h (stands-count w a c ∙ z)),
+          )
 
-      pub fold-made : {old new : List ℕ} {answer : Result ℕ Refusal} → (x.0 ≡ 0 → ⊥) → Changes (if_fits (flushed img r.walk (F.Fold p.batches)) (length old)) old answer new
+      pub fold-made : {old new : List ℕ} {answer : Result ℕ Refusal} → (x.0 ≡ 0 → ⊥)
+          → Changes (if_fits (flushed k (F.Fold p.batches)) (length old)) old answer new
           → Changes (fold_entries usual img (length old)) old answer new
       unfolding result
       fold-made h = changes-made Call.fold w (some-batch s.batches (λ z. h (stands-count w a c ∙ z))) (fold-bytes h)
 
     -- ---- "Snapshot folds every layer"
 
-    pub all-few : {m : ℕ} {r : Layers} → OpensLayers img p m r → m ≡ x.0 + 1 → Few img r.walk
-    all-few {m} l e = walk-few s m (stands-fits w) (l.opens s w (omega (arith, e, stands-count w a c, layers-count s.batches s.live))).over
-
-    module _ {m : ℕ} {r : Layers} (l : OpensLayers img p m r) (e : m ≡ x.0 + 1) where
-      all-over : Over img s.base (layers s) r.walk
+    module _ {m : ℕ} {r : Layers} (l : OpensLayers img p m r) (k : Walk) (image : k.img.now ≡ img) (same : k.runs ≡ r.runs) (e : m ≡ x.0 + 1) where
+      all-over : Over s.base (layers s) k
       all-over =
-          let z : m ≡ length (layers s) = omega (arith, e, stands-count w a c, layers-count s.batches s.live) in
-          rw (z, take-length) at (l.opens s w (omega (arith, z))).over
+          let z : m ≡ length (layers s) = omega (arith, e, stands-count w a c, count-layers s.batches s.live) in
+          record { are = rw (image, same) (rw (z, take-length) at (opened l (omega (arith, e))).are) }
 
       module _ {n : ℕ} (next : n ≡ s.next) where
-        snapshot-bytes : flushed img r.walk (F.Snapshot n) ≡ write_image (snapshot usual s)
+        snapshot-bytes : flushed k (F.Snapshot n) ≡ write_image (snapshot usual s)
         unfolding snapshot queue_bytes empty
         snapshot-bytes = rw (base-written all-over true, next, store_bytes, batches-bytes, append-nil)
 
-        pub snapshot-made : {old new : List ℕ} {answer : Result ℕ Refusal} → Changes (if_fits (flushed img r.walk (F.Snapshot n)) (length old)) old answer new
+        pub snapshot-made : {old new : List ℕ} {answer : Result ℕ Refusal} → Changes (if_fits (flushed k (F.Snapshot n)) (length old)) old answer new
             → Changes (snapshot_all usual img (length old)) old answer new
         snapshot-made {old} h = rw (snapshot-fits w (length old), ← snapshot-bytes) h
 
@@ -158,7 +177,8 @@ tail-is : {img : List ℕ} {p : Sections} {s : Store} → Stands img p s → (o 
     → meant tail_meant o ≡ Ok (tail_of s, length img)
 tail-is w o g = span-reads tail w.tail (tail-fits (stands-fits w)) g
 
-module _ {img : List ℕ} {p : Sections} {s : Store} (w : Stands img p s) (o : Result (Tail × ℕ) Fault) (g : Reads img tail.read p.tail (meant tail_meant o)) where
+module _ {img : List ℕ} {p : Sections} {s : Store} (w : Stands img p s) (o : Result (Tail × ℕ) Fault)
+    (g : Reads img tail.read p.tail (meant tail_meant o)) where
   pub tail-ok : IsOk o
   tail-ok = meant-ok tail_meant o (tail-is w o g)
 

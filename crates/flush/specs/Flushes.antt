@@ -22,5 +22,5 @@ abbrev pub rest_bytes : List ℕ → Flush → List ℕ
 rest_bytes img (F.Fold p) = between img p (length img)
 rest_bytes img (F.Snapshot n) = emptied n
 
-abbrev pub flushed : List ℕ → Walk → Flush → List ℕ
-flushed img w f = base_bytes (drops_of f) (stacks_left img w) ++ rest_bytes img f
+abbrev pub flushed : Walk → Flush → List ℕ
+flushed w f = base_bytes (drops_of f) (stacks_left w) ++ rest_bytes w.img.now f

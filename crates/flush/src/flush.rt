@@ -21,7 +21,8 @@ pub fn fold_entries(img: &[u8], target: &mut [u8]) -> Result<usize, Refusal>
         return Err(Refusal::NoBatch);
     }
     let layers = open_layers(img, sections, 1);
-    write_flushed(img, layers.walk, Flush::Fold(sections.batches), target)
+    let walk = layers.walk(img);
+    write_flushed(&walk, Flush::Fold(sections.batches), target)
 }
 
 // Folds every layer into the base, and drops non-directories with 0 links. Its scratch is that of a fold: a walk and the sources of one list,
@@ -33,5 +34,6 @@ pub fn snapshot_all(img: &[u8], target: &mut [u8]) -> Result<usize, Refusal>
     let (count, _) = read_number(img, sections.batches, 16).unwrap();
     let layers = open_layers(img, sections, count + 1);
     let (tail, _) = read_tail(img, sections.tail).unwrap();
-    write_flushed(img, layers.walk, Flush::Snapshot(tail.next_id), target)
+    let walk = layers.walk(img);
+    write_flushed(&walk, Flush::Snapshot(tail.next_id), target)
 }

@@ -1,8 +1,9 @@
 // The writer of images with another base.
-ghost use Rattle.std.specs.Prelude.{length, ◌≡◌};
+ghost use Rattle.std.specs.Prelude.{length, ◌≡◌, ◌≤◌};
+ghost use Rattle.wire.specs.Number.{edge};
 ghost use Rattle.wire.specs.Put.{Put};
 ghost use Rattle.change.specs.Changed.{Changes, if_fits};
-ghost use Rattle.base.specs.Nodes.{Few};
+ghost use Rattle.walk.specs.Walks.{stacks_left};
 ghost use Rattle.flush.specs.Flushes.{drops_of, emptied, rest_bytes, flushed};
 
 use base::node::put_nodes;
@@ -27,10 +28,7 @@ pub enum Flush {
 fn drops_of(flush: Flush) -> bool
     ensures { result ≡ drops_of flush }
 {
-    match flush {
-        Flush::Fold(_) => false,
-        Flush::Snapshot(_) => true,
-    }
+    matches!(flush, Flush::Snapshot(_))
 }
 
 // A store's end with nothing but its next id.
@@ -60,25 +58,21 @@ fn put_rest(buf: &mut [u8], at: usize, img: &[u8], flush: Flush) -> usize
 
 // Measures the new image, and writes it to the target if there is room. By itself and not by `write_if_room`: the count of the nodes stands
 // before them, so that would walk the layers a third time.
-pub fn write_flushed(
-    img: &[u8],
-    walk: Walk,
-    flush: Flush,
-    target: &mut [u8],
-) -> Result<usize, Refusal>
-    requires { Few img.now walk }
-    ensures { Changes (if_fits (flushed img.now walk flush) (length target.old)) target.old result target.new }
+pub fn write_flushed(walk: &Walk, flush: Flush, target: &mut [u8]) -> Result<usize, Refusal>
+    requires { length (stacks_left walk.now) ≤ edge }
+    ensures { Changes (if_fits (flushed walk.entry.now flush) (length target.old)) target.old result target.new }
 {
+    let img = walk.img;
     let mut none = [0u8; 0];
     let drops = drops_of(flush);
-    let nodes = put_nodes(&mut none, 0, img, walk, drops);
+    let nodes = put_nodes(&mut none, 0, walk, drops);
     let count = put_number(&mut none, 0, nodes.count);
     let size = put_rest(&mut none, advance(count, nodes.end), img, flush);
     if lacks_room(size, target.len()) {
         return Err(Refusal::NoRoom);
     }
     let start = put_number(target, 0, nodes.count);
-    let base = put_nodes(target, start, img, walk, drops);
+    let base = put_nodes(target, start, walk, drops);
     let end = put_rest(target, base.end, img, flush);
     Ok(end)
 }

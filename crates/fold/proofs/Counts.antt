@@ -45,7 +45,8 @@ measured {l} {at} {r} {bs} h e = record { to = e; is = sym (sets-out bs l at (om
 
 -- ---- rows after one byte, and their count before them
 
-module _ (k : ℕ) {l m n : List ℕ} {at start end first : ℕ} {ys : List ℕ} (s : start ≡ min (at + 1) edge) (p : Put l start ys end m) (q : Put m at (number_bytes k) first n) where
+module _ (k : ℕ) {l m n : List ℕ} {at start end first : ℕ} {ys : List ℕ} (s : start ≡ min (at + 1) edge) (p : Put l start ys end m)
+    (q : Put m at (number_bytes k) first n) where
   rows_are : m ≡ sets l (suc at) ys
   rows_are =
       ⊎_elim
@@ -67,6 +68,7 @@ module _ (k : ℕ) {l m n : List ℕ} {at start end first : ℕ} {ys : List ℕ}
       let both = put-append q w in
       record {
         to = both.to;
-        is = both.is ∙ rw rows_are (covers ys (number_bytes k ++ ys) l at (suc at) (omega arith) (omega (arith, length-append (number_bytes k) ys, number-one k)));
+        is = both.is ∙ rw rows_are
+            (covers ys (number_bytes k ++ ys) l at (suc at) (omega arith) (omega (arith, length-append (number_bytes k) ys, number-one k)));
         short = p.short;
       }

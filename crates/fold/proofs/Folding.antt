@@ -22,6 +22,7 @@ use Rattle.image.specs.declared.name.Under.TheVariants as U
 use Rattle.rules.specs.Initial.{usual}
 use Rattle.rules.specs.Fold.{same_kind, applied, fold_record}
 use Rattle.rules.specs.PlacedStacks.{records_on, node_at, unplaced, unplaced_node}
+use Rattle.rules.specs.Changes.{map_if}
 use Rattle.rules.proofs.Folded.{folded}
 use Rattle.nodes.specs.Listed.{by_name, list_at, Listed}
 use Rattle.deltas.specs.Deltas.{attr_of, change_meant, delta_meant}
@@ -45,7 +46,8 @@ use Rattle.stack.specs.declared.stack.Stack.{Stack}
 use Rattle.stack.proofs.Walks.{records-more}
 use Rattle.apply.specs.Folded.{body_with, node_with, on_attributes, on_entries, FirstNode, AppliesNode}
 use Rattle.fold.specs.Lists.{attributes_of, entries_of}
-use Rattle.fold.specs.FoldedNodes.{Comes, AttributesAfter, EntriesAfter, entries_from, Shows, ShowsIf, FoldsBase, FoldsDelta, FoldsRecord, folded_in, FoldsTo, origin_bytes, body_written, PutsBody, bytes_if, Merged}
+use Rattle.fold.specs.FoldedNodes.{Comes, AttributesAfter, EntriesAfter, entries_from, Shows, ShowsIf, FoldsBase, FoldsDelta, FoldsRecord}
+use Rattle.fold.specs.FoldedNodes.{folded_in, FoldsTo, origin_bytes, body_written, PutsBody, bytes_if, Merged}
 use Rattle.fold.specs.declared.folded.Origin.{Origin}
 use Rattle.fold.specs.declared.folded.Origin.TheVariants as From
 use Rattle.fold.specs.declared.folded.Folded.{Folded}
@@ -65,18 +67,12 @@ kind-with img K.Socket es = refl
 pub shows-kind : {img : List ℕ} {f : Folded} {m : M.Node} → Shows img f m → kind_of (body_meant img f.node.kind) ≡ kind_of m.body
 shows-kind {img} {f} h = kind-with img f.node.kind h.entries ∙ ap (λ (x : M.Node). kind_of x.body) h.is
 
--- ---- where its lists come from, after a delta
-
-pub attributes-stay : {d : NodeDelta} {o : Origin} → (attr_of d).xattrs ≡ None → AttributesAfter d o o
-attributes-stay e = record { makes = λ img vs h. rw e h }
-
-pub entries-stay : {d : NodeDelta} {o : Origin} → ((img : List ℕ) (es : Entries) → on_entries (change_meant img d) es ≡ es) → EntriesAfter d o o
-entries-stay e = record { makes = λ img es h. rw (e img es) h }
-
 -- ---- a record folded in
 
-after : (img : List ℕ) (d : NodeDelta) (n : Node) (r : Folded) → AppliesNode d n r.node → {o p : Origin} → AttributesAfter d o r.attributes → EntriesAfter d p r.entries
-    → (vs : Attributes) (es : Entries) → Comes img U.Value o vs → Comes img U.Inode p es → {m : M.Node} → node_with img n vs es ≡ m → Shows img r (applied (delta_meant img d) m)
+after : (img : List ℕ) (d : NodeDelta) (n : Node) (r : Folded) → AppliesNode d n r.node → {o p : Origin} → AttributesAfter d o r.attributes
+    → EntriesAfter d p r.entries
+    → (vs : Attributes) (es : Entries) → Comes img U.Value o vs → Comes img U.Inode p es → {m : M.Node} → node_with img n vs es ≡ m
+    → Shows img r (applied (delta_meant img d) m)
 after img d n r f a b vs es u v e = record {
   attributes = on_attributes img (attr_of d) vs;
   entries = on_entries (change_meant img d) es;
@@ -90,7 +86,8 @@ module _ (d : NodeDelta) (n : Folded) (t : FileType) {b : Bool} (s : (img : List
   same-told : {img : List ℕ} {m : M.Node} → Shows img n m → same_kind (changed_kind (change_meant img d)) (kind_of m.body) ≡ b
   same-told {img} {m} h = rw (← (shows-kind h), ← (k img)) (sym (s img))
 
-  pub delta-applied : (r : Folded) → AppliesNode d n.node r.node → AttributesAfter d n.attributes r.attributes → EntriesAfter d n.entries r.entries → b ≡ true → FoldsDelta d n r
+  pub delta-applied : (r : Folded) → AppliesNode d n.node r.node → AttributesAfter d n.attributes r.attributes → EntriesAfter d n.entries r.entries → b ≡ true
+      → FoldsDelta d n r
   delta-applied r f u v e = record {
     makes = λ img m h. rw (same-told h, e) (after img d n.node r f u v h.attributes h.entries h.attributes_come h.entries_come h.is);
   }
@@ -106,7 +103,8 @@ record-on {d} {n} {r} f = record { makes = go }
     go img None h = absurd h
     go img (Some m) h = f.makes img m h
 
-pub record-first : (d : NodeDelta) (n : Node) (r : Folded) → FirstNode d n → AppliesNode d n r.node → AttributesAfter d From.Nothing r.attributes → EntriesAfter d From.Nothing r.entries
+pub record-first : (d : NodeDelta) (n : Node) (r : Folded) → FirstNode d n → AppliesNode d n r.node → AttributesAfter d From.Nothing r.attributes
+    → EntriesAfter d From.Nothing r.entries
     → FoldsRecord (E.Node d) None (Some r)
 unfolding fold_record
 record-first d n r g f u v = record { makes = go }
@@ -142,24 +140,23 @@ base-entries img (K.CharDevice rdev) end h = refl
 base-entries img (K.BlockDevice rdev) end h = refl
 base-entries img K.Socket end h = refl
 
-pub base-none : FoldsBase None None
-base-none = record { makes = go }
-  where
-    go : (img : List ℕ) (p : Option ℕ) → BaseIs img p None → ShowsIf img None (unplaced_node (node_at img p))
-    go img None b = tt
-    go img (Some p) b = absurd b
+-- a base node, with its lists as they stand
+abbrev pub based : Node → Folded
+based n = record { node = n; attributes = From.Base n.meta.xattrs; entries = entries_from n.kind }
 
-pub base-shows : (n : Node) {o : Origin} → o ≡ entries_from n.kind → FoldsBase (Some n) (Some (record { node = n; attributes = From.Base n.meta.xattrs; entries = o }))
-base-shows n {o} e = record { makes = go }
+pub base-folds : (o : Option Node) {r : Option Folded} → r ≡ map_if based o → FoldsBase o r
+base-folds o e = rw e (record { makes = go o })
   where
-    go : (img : List ℕ) (p : Option ℕ) → BaseIs img p (Some n) → ShowsIf img (Some (record { node = n; attributes = From.Base n.meta.xattrs; entries = o })) (unplaced_node (node_at img p))
-    go img None b = absurd b
-    go img (Some p) b = rw b.reads.reads.same (record {
+    go : (o : Option Node) (img : List ℕ) (p : Option ℕ) → BaseIs img p o → ShowsIf img (map_if based o) (unplaced_node (node_at img p))
+    go None img None b = tt
+    go None img (Some p) b = absurd b
+    go (Some n) img None b = absurd b
+    go (Some n) img (Some p) b = rw b.reads.reads.same (record {
       attributes = list_at img U.Value n.meta.xattrs;
       entries = entries_in (body_meant img n.kind);
       is = rw (body-shows img n.kind);
       attributes_come = whole b.reads.attributes;
-      entries_come = rw e (base-entries img n.kind b.end b.reads.entries);
+      entries_come = base-entries img n.kind b.end b.reads.entries;
     })
 
 -- the node of the lowest i records
@@ -177,12 +174,10 @@ module _ {s : Stack} {o : Option Folded} where
   unfolding folded
   rising-more {i} w l g f = record { low = omega arith; shows = rw (records-more s.stacked i l g) (f.makes s.img.now _ w.shows) }
 
-  pub rising-all : {i : ℕ} → Rising s o i → s.places.count ≤ i → ShowsIf s.img.now o (folded_in s)
-  rising-all {i} w l = let z : i ≡ s.places.count = omega (arith, w.low) in rw z at w.shows
-
 -- ---- the bytes of its lists
 
-origin-bytes : (img : List ℕ) (u : Under) (o : Origin) (l made : Map by_bytes (UnderName u)) → Comes img u o l → (o ≡ From.Merged → made ≡ l) → origin_bytes img o ((by_name u).write made) ≡ (by_name u).write l
+origin-bytes : (img : List ℕ) (u : Under) (o : Origin) (l made : Map by_bytes (UnderName u)) → Comes img u o l → (o ≡ From.Merged → made ≡ l)
+    → origin_bytes img o ((by_name u).write made) ≡ (by_name u).write l
 unfolding empty
 origin-bytes img u (From.Base p) l made h m = list_written u h.1 ∙ ap (by_name u).write h.0
 origin-bytes img u From.Nothing l made h m = rw h (sym (append-nil (number_bytes 0)))
@@ -223,7 +218,8 @@ merged-folds {s} {f} {old} {at} {r} {new} g w = go (folded_in s) refl g
 -- ---- as it is written
 
 node-with-bytes : (img : List ℕ) (n : Node) (vs : Attributes) (es : Entries)
-    → number_bytes (kind_number (kind_of (body_meant img n.kind))) ++ (meta_bytes n.meta ++ (attributes.write vs ++ body_written img n.kind es)) ≡ node.write (node_with img n vs es)
+    → number_bytes (kind_number (kind_of (body_meant img n.kind))) ++ (meta_bytes n.meta ++ (attributes.write vs ++ body_written img n.kind es))
+    ≡ node.write (node_with img n vs es)
 unfolding node kind
 node-with-bytes img n vs es = rw (meta-with-bytes n.meta vs, kind-with img n.kind es) (simp append_assoc)
 

@@ -9,7 +9,8 @@ use native.Mathlib.Omega.{arith}
 use Rattle.wire.specs.Orders.{by_bytes}
 use Rattle.wire.specs.Maps.{meet, merge, empty}
 use Rattle.image.specs.Meaning as M
-use Rattle.image.specs.Meaning.{Kind, Entries, Body, Meta, Changes, Fields, Change, Record, directory, file, symlink, special, pipe, character, block, socket, tombstone, delta, kind_of, changed_kind}
+use Rattle.image.specs.Meaning.{Kind, Entries, Body, Meta, Changes, Fields, Change, Record, directory, file, symlink}
+use Rattle.image.specs.Meaning.{special, pipe, character, block, socket, tombstone, delta, kind_of, changed_kind}
 use Rattle.image.specs.declared.name.Under.TheVariants as U
 use Rattle.rules.specs.Initial.{usual}
 use Rattle.rules.specs.Fold.{add_all, alter_all, on_body, applied, first_body, first_node, same_kind, fold_record}
@@ -67,16 +68,19 @@ same_self (special socket) = refl
 -- ---- one delta
 
 module _ (p : ℕ) (f : Fields) where
-  alter-fold : (o : Option Changes) (below : List Deciding) → map_values by_bytes valued (merges (alter_pile p f o ++ below)) ≡ meet alter_all o (map_values by_bytes valued (merges below))
+  alter-fold : (o : Option Changes) (below : List Deciding)
+      → map_values by_bytes valued (merges (alter_pile p f o ++ below)) ≡ meet alter_all o (map_values by_bytes valued (merges below))
   unfolding merged
   alter-fold None below = refl
   alter-fold (Some cs) below = changes-forget (changes_at p f cs) cs (merges below)
 
-  change-fold : (c : Change) (below : List Deciding) → map_values by_bytes inoded (merges (change_pile p f c ++ below)) ≡ on_entries c (map_values by_bytes inoded (merges below))
+  change-fold : (c : Change) (below : List Deciding)
+      → map_values by_bytes inoded (merges (change_pile p f c ++ below)) ≡ on_entries c (map_values by_bytes inoded (merges below))
   unfolding merged
   change-fold (directory parent added removed) below =
       let under = source_of U.Nothing (removed_at p f parent added) removed in
-      added-forget (added_at p f parent) added (merge by_bytes (itself by_bytes) under (merges below)) ∙ ap (add_all added) (removed-forget (removed_at p f parent added) removed (merges below))
+      added-forget (added_at p f parent) added (merge by_bytes (itself by_bytes) under (merges below))
+      ∙ ap (add_all added) (removed-forget (removed_at p f parent added) removed (merges below))
   change-fold (file n) below = refl
   change-fold (symlink t) below = refl
   change-fold (special s device) below = refl
@@ -107,7 +111,8 @@ no_node l of (r ∷ rs) b h = go r.held (folded usual (unplaced rs) (unplaced_no
 
 -- ---- attributes
 
-pub attributes-fold : (t : FileType) (rs : List (Placed Record)) (b : Option (Placed M.Node)) (m : M.Node) → folded usual (unplaced rs) (unplaced_node b) ≡ Some m → kind_meant t ≡ kind_of m.body
+pub attributes-fold : (t : FileType) (rs : List (Placed Record)) (b : Option (Placed M.Node)) (m : M.Node)
+    → folded usual (unplaced rs) (unplaced_node b) ≡ Some m → kind_meant t ≡ kind_of m.body
     → map_values by_bytes valued (merges (pile_of L.Attributes (Some t) rs b)) ≡ m.meta.attributes
 unfolding folded fold_record merged
 attributes-fold t [] None m h k = gone h
@@ -120,18 +125,21 @@ attributes-fold t (r ∷ rs) b m h k = go r.held (folded usual (unplaced rs) (un
     below = pile_of L.Attributes (Some t) rs b
 
     go : (x : Record) (o : Option M.Node) → folded usual (unplaced rs) (unplaced_node b) ≡ o → fold_record usual x o ≡ Some m
-        → ((n : M.Node) → folded usual (unplaced rs) (unplaced_node b) ≡ Some n → kind_meant t ≡ kind_of n.body → map_values by_bytes valued (merges below) ≡ n.meta.attributes)
+        → ((n : M.Node) → folded usual (unplaced rs) (unplaced_node b) ≡ Some n → kind_meant t ≡ kind_of n.body
+        → map_values by_bytes valued (merges below) ≡ n.meta.attributes)
         → map_values by_bytes valued (merges (record_pile L.Attributes (Some t) r.place x below)) ≡ m.meta.attributes
     go tombstone o e h ih = gone h
     go (delta d) None e h ih =
         let z : applied d (first_node usual d.change) ≡ m = cc in
-        let kind : kind_meant t ≡ changed_kind d.change = k ∙ ap (λ (x : M.Node). kind_of x.body) (sym z) ∙ on-kind d.change (first_body d.change) ∙ first_kind d.change in
+        let kind : kind_meant t ≡ changed_kind d.change = k ∙ ap (λ (x : M.Node). kind_of x.body) (sym z) ∙ on-kind d.change (first_body d.change)
+        ∙ first_kind d.change in
         let none = no_node L.Attributes (Some t) rs b e in
         rw (kind, same_self (changed_kind d.change), none, alter-fold r.place d.fields d.fields.attributes [], map-empty by_bytes valued)
         (ap (λ (x : M.Node). x.meta.attributes) z)
     go (delta d) (Some n) e h ih = test (same_kind (changed_kind d.change) (kind_of n.body)) refl (ih n e)
       where
-        test : (q : Bool) → same_kind (changed_kind d.change) (kind_of n.body) ≡ q → (kind_meant t ≡ kind_of n.body → map_values by_bytes valued (merges below) ≡ n.meta.attributes)
+        test : (q : Bool) → same_kind (changed_kind d.change) (kind_of n.body) ≡ q
+            → (kind_meant t ≡ kind_of n.body → map_values by_bytes valued (merges below) ≡ n.meta.attributes)
             → map_values by_bytes valued (merges (delta_pile L.Attributes (Some t) r.place d ++ below)) ≡ m.meta.attributes
         test true q ih =
             let z : applied d n ≡ m = let y = rw q at h in cc in
@@ -165,7 +173,8 @@ first-entries (symlink t) = refl
 first-entries (special s device) = refl
 
 -- a delta of the directory's kind, and one of another
-on-entries : (c : Change) (b : Body) → same_kind (changed_kind c) (kind_of b) ≡ true → kind_of b ≡ directory → on_entries c (entries_in b) ≡ entries_in (on_body c b)
+on-entries : (c : Change) (b : Body) → same_kind (changed_kind c) (kind_of b) ≡ true → kind_of b ≡ directory
+    → on_entries c (entries_in b) ≡ entries_in (on_body c b)
 unfolding same_kind
 on-entries (directory p a r) (directory q es) s k = refl
 on-entries (file n) (directory q es) s k = absurd (let z : ◌≡◌ {A = ℕ} 0 1 = cc in omega arith)
@@ -196,7 +205,8 @@ entries-fold of (r ∷ rs) b m h k = go r.held (folded usual (unplaced rs) (unpl
     below = pile_of L.Entries of rs b
 
     go : (x : Record) (o : Option M.Node) → folded usual (unplaced rs) (unplaced_node b) ≡ o → fold_record usual x o ≡ Some m
-        → ((n : M.Node) → folded usual (unplaced rs) (unplaced_node b) ≡ Some n → kind_of n.body ≡ directory → map_values by_bytes inoded (merges below) ≡ entries_in n.body)
+        → ((n : M.Node) → folded usual (unplaced rs) (unplaced_node b) ≡ Some n → kind_of n.body ≡ directory
+        → map_values by_bytes inoded (merges below) ≡ entries_in n.body)
         → map_values by_bytes inoded (merges (record_pile L.Entries of r.place x below)) ≡ entries_in m.body
     go tombstone o e h ih = gone h
     go (delta d) None e h ih =
@@ -205,13 +215,16 @@ entries-fold of (r ∷ rs) b m h k = go r.held (folded usual (unplaced rs) (unpl
         (first-entries d.change ∙ ap (λ (x : M.Node). entries_in x.body) z)
     go (delta d) (Some n) e h ih = test (same_kind (changed_kind d.change) (kind_of n.body)) refl (ih n e)
       where
-        test : (q : Bool) → same_kind (changed_kind d.change) (kind_of n.body) ≡ q → (kind_of n.body ≡ directory → map_values by_bytes inoded (merges below) ≡ entries_in n.body)
+        test : (q : Bool) → same_kind (changed_kind d.change) (kind_of n.body) ≡ q
+            → (kind_of n.body ≡ directory → map_values by_bytes inoded (merges below) ≡ entries_in n.body)
             → map_values by_bytes inoded (merges (change_pile r.place d.fields d.change ++ below)) ≡ entries_in m.body
         test true q ih =
             let z : applied d n ≡ m = let y = rw q at h in cc in
             let kind : kind_of n.body ≡ directory = sym (on-kind d.change n.body) ∙ ap (λ (x : M.Node). kind_of x.body) z ∙ k in
-            change-fold r.place d.fields d.change below ∙ ap (on_entries d.change) (ih kind) ∙ on-entries d.change n.body q kind ∙ ap (λ (x : M.Node). entries_in x.body) z
+            change-fold r.place d.fields d.change below ∙ ap (on_entries d.change) (ih kind) ∙ on-entries d.change n.body q kind
+            ∙ ap (λ (x : M.Node). entries_in x.body) z
         test false q ih =
             let z : n ≡ m = let y = rw q at h in cc in
             let kind : kind_of n.body ≡ directory = ap (λ (x : M.Node). kind_of x.body) z ∙ k in
-            change-fold r.place d.fields d.change below ∙ other_entries d.change n.body (map_values by_bytes inoded (merges below)) q kind ∙ ih kind ∙ ap (λ (x : M.Node). entries_in x.body) z
+            change-fold r.place d.fields d.change below ∙ other_entries d.change n.body (map_values by_bytes inoded (merges below)) q kind ∙ ih kind
+            ∙ ap (λ (x : M.Node). entries_in x.body) z

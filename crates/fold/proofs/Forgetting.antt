@@ -25,16 +25,19 @@ module _ (u : Under) {B : Type 0} (f : ℕ × Given → B) (g : Text → UnderNa
   forgets : (q : ℕ) (m : Map by_bytes (UnderName u)) (x : Started Given)
       → map_values by_bytes f (merge by_bytes (itself by_bytes) (source_of u q m) x) ≡ merge by_bytes g m (map_values by_bytes f x)
   forgets q m x =
-      map-ext by_bytes (map_values by_bytes f (merge by_bytes (itself by_bytes) (source_of u q m) x)) (merge by_bytes g (forgotten (starts (under u) q m)) (map_values by_bytes f x)) (λ k.
+      map-ext by_bytes (map_values by_bytes f (merge by_bytes (itself by_bytes) (source_of u q m) x))
+      (merge by_bytes g (forgotten (starts (under u) q m)) (map_values by_bytes f x)) (λ k.
       simp (get-merge, get-map) (go k (get by_bytes k (starts (under u) q m))))
       ∙ ap (λ (n : Map by_bytes (UnderName u)). merge by_bytes g n (map_values by_bytes f x)) (starts-forgotten (under u) q m)
     where
-      go : (k : Text) (o : Option (ℕ × UnderName u)) → map_if f (meet (itself by_bytes k) (map_if (decided u) o) (get by_bytes k x)) ≡ meet (g k) (map_if (λ y. y.1) o) (map_if f (get by_bytes k x))
+      go : (k : Text) (o : Option (ℕ × UnderName u))
+          → map_if f (meet (itself by_bytes k) (map_if (decided u) o) (get by_bytes k x)) ≡ meet (g k) (map_if (λ y. y.1) o) (map_if f (get by_bytes k x))
       go k None = refl
       go k (Some a) = h a.0 a.1 k (map_if f (get by_bytes k x))
 
   -- the lowest source
-  forgets-alone : (q : ℕ) (m : Map by_bytes (UnderName u)) → map_values by_bytes f (merge by_bytes (itself by_bytes) (source_of u q m) (empty by_bytes)) ≡ merge by_bytes g m (empty by_bytes)
+  forgets-alone : (q : ℕ) (m : Map by_bytes (UnderName u))
+      → map_values by_bytes f (merge by_bytes (itself by_bytes) (source_of u q m) (empty by_bytes)) ≡ merge by_bytes g m (empty by_bytes)
   forgets-alone q m = forgets q m (empty by_bytes) ∙ ap (λ (x : Map by_bytes B). merge by_bytes g m x) (map-empty by_bytes f)
 
 -- all of a map over nothing
@@ -51,7 +54,8 @@ change-says : (s : ℕ) (v : Option Text) (k : Text) (o : Option Text) → map_i
 change-says s None k o = refl
 change-says s (Some t) k o = refl
 
-pub changes-forget : (q : ℕ) (cs : Changes) (x : Started Given) → map_values by_bytes valued (merge by_bytes (itself by_bytes) (source_of U.Change q cs) x) ≡ alter_all cs (map_values by_bytes valued x)
+pub changes-forget : (q : ℕ) (cs : Changes) (x : Started Given)
+    → map_values by_bytes valued (merge by_bytes (itself by_bytes) (source_of U.Change q cs) x) ≡ alter_all cs (map_values by_bytes valued x)
 changes-forget q cs x = forgets U.Change valued (λ name change old. change) change-says q cs x
 
 pub values-forget : (q : ℕ) (vs : Attributes) → map_values by_bytes valued (merge by_bytes (itself by_bytes) (source_of U.Value q vs) (empty by_bytes)) ≡ vs
@@ -59,10 +63,12 @@ values-forget q vs = forgets-alone U.Value valued (λ name v old. Some v) (λ s 
 
 -- ---- entries
 
-pub added-forget : (q : ℕ) (es : Entries) (x : Started Given) → map_values by_bytes inoded (merge by_bytes (itself by_bytes) (source_of U.Inode q es) x) ≡ add_all es (map_values by_bytes inoded x)
+pub added-forget : (q : ℕ) (es : Entries) (x : Started Given)
+    → map_values by_bytes inoded (merge by_bytes (itself by_bytes) (source_of U.Inode q es) x) ≡ add_all es (map_values by_bytes inoded x)
 added-forget q es x = forgets U.Inode inoded (λ name inode old. Some inode) (λ s v k o. refl) q es x
 
-pub removed-forget : (q : ℕ) (ns : Names) (x : Started Given) → map_values by_bytes inoded (merge by_bytes (itself by_bytes) (source_of U.Nothing q ns) x) ≡ remove_all ns (map_values by_bytes inoded x)
+pub removed-forget : (q : ℕ) (ns : Names) (x : Started Given)
+    → map_values by_bytes inoded (merge by_bytes (itself by_bytes) (source_of U.Nothing q ns) x) ≡ remove_all ns (map_values by_bytes inoded x)
 removed-forget q ns x = forgets U.Nothing inoded (λ name u old. None) (λ s v k o. refl) q ns x
 
 pub entries-forget : (q : ℕ) (es : Entries) → map_values by_bytes inoded (merge by_bytes (itself by_bytes) (source_of U.Inode q es) (empty by_bytes)) ≡ es

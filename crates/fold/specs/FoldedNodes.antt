@@ -83,7 +83,8 @@ pub record FoldsBase (o : Option Node) (r : Option Folded) : Type 0 where
 
 -- "Delta of the node's kind: applied. Other kind: nothing."
 pub record FoldsDelta (d : NodeDelta) (f r : Folded) : Type 0 where
-  pub makes : (img : List ℕ) (m : M.Node) → Shows img f m → Shows img r (cond (same_kind (changed_kind (change_meant img d)) (kind_of m.body)) (applied (delta_meant img d) m) m)
+  pub makes : (img : List ℕ) (m : M.Node) → Shows img f m
+      → Shows img r (cond (same_kind (changed_kind (change_meant img d)) (kind_of m.body)) (applied (delta_meant img d) m) m)
 
 pub record FoldsRecord (e : EntryDelta) (o r : Option Folded) : Type 0 where
   pub makes : (img : List ℕ) (m : Option M.Node) → ShowsIf img o m → ShowsIf img r (fold_record usual (entry_meant img e) m)

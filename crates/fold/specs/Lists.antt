@@ -1,9 +1,10 @@
 -- The lists that fold makes of a stack. Document 01: "Delta of the node's kind: applied, entries sorted, no empty attribute map."
-use Rattle.std.specs.Prelude.{◌≡◌, List, [], ◌∷◌, ◌++◌, ℕ, ◌≤◌, length, None, Some}
+use Rattle.std.specs.Prelude.{◌≡◌, List, [], ◌∷◌, ◌++◌, ℕ, length, None, Some}
 use Rattle.wire.specs.Orders.{by_bytes}
-use Rattle.wire.specs.Number.{edge, number_bytes}
+use Rattle.wire.specs.Number.{number_bytes}
 use Rattle.wire.specs.Combinators.{◌then◌}
 use Rattle.wire.specs.Put.{Put}
+use Rattle.wire.specs.declared.put.Written.{Written}
 use Rattle.image.specs.Meaning.{Text, Entries, Attributes}
 use Rattle.image.specs.FieldLayout.{name, inode, value, attributes, entries}
 use Rattle.rules.specs.Starts.{Started}
@@ -12,13 +13,12 @@ use Rattle.image.specs.declared.kind.FileType.{FileType}
 use Rattle.stack.specs.declared.stack.Stack.{Stack}
 use Rattle.merge.specs.Pile.{merged, itself}
 use Rattle.merge.specs.Sources.{Given}
-use Rattle.merge.specs.Merges.{listed, Ready, given_by}
+use Rattle.merge.specs.Merges.{given_in}
 use Rattle.merge.specs.declared.sources.Sources.{Sources}
 use Rattle.merge.proofs.Lists.{Deciding}
 use Rattle.gather.specs.Gathers.{pile_in}
 use Rattle.gather.specs.declared.gather.Listing.{Listing}
 use Rattle.gather.specs.declared.gather.Listing.TheVariants as L
-use Rattle.fold.specs.declared.list.Rows.{Rows}
 
 -- ---- rows as they are written
 
@@ -35,15 +35,10 @@ rows_given l (e ∷ es) = row_given l e ++ rows_given l es
 abbrev pub list_given : Listing → List (Text × (ℕ × Given)) → List ℕ
 list_given l es = number_bytes (length es) ++ rows_given l es
 
--- a number holds the count
-pub record Few (img : List ℕ) (all : Sources) : Type 0 where
-  pub ready : Ready img (listed all)
-  pub few : length (given_by img (listed all)) ≤ edge
-
 -- the rows that sources give, written and counted
-pub record PutsRows (img : List ℕ) (all : Sources) (l : Listing) (old : List ℕ) (at : ℕ) (r : Rows) (new : List ℕ) : Type 0 where
-  pub puts : Put old at (rows_given l (given_by img (listed all))) r.end new
-  pub counts : r.count ≡ length (given_by img (listed all))
+pub record PutsRows (all : Sources) (l : Listing) (old : List ℕ) (at : ℕ) (r : Written) (new : List ℕ) : Type 0 where
+  pub puts : Put old at (rows_given l (given_in all)) r.end new
+  pub counts : r.count ≡ length (given_in all)
 
 -- ---- the lists of a stack merged
 

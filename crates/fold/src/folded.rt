@@ -2,7 +2,8 @@
 ghost use Rattle.std.specs.Prelude.{◌≡◌};
 ghost use Rattle.wire.specs.Put.{Put};
 ghost use Rattle.fold.specs.Lists.{merged_bytes};
-ghost use Rattle.fold.specs.FoldedNodes.{AttributesAfter, EntriesAfter, FoldsDelta, StartsNode, FoldsRecord, entries_from, FoldsBase, ShowsIf, folded_in, FoldsTo, origin_bytes, PutsBody, bytes_if};
+ghost use Rattle.fold.specs.FoldedNodes.{AttributesAfter, EntriesAfter, FoldsDelta, StartsNode, FoldsRecord, entries_from, FoldsBase};
+ghost use Rattle.fold.specs.FoldedNodes.{ShowsIf, folded_in, FoldsTo, origin_bytes, PutsBody, bytes_if};
 
 use crate::list::put_merged;
 use apply::node::{apply_to_node, initial_node};
@@ -108,14 +109,11 @@ fn entries_in(kind: NodeKind) -> Origin
 fn fold_base(base: Option<Node>) -> Option<Folded>
     ensures { FoldsBase base result }
 {
-    match base {
-        Some(node) => Some(Folded {
-            node,
-            attributes: Origin::Base(node.meta.xattrs),
-            entries: entries_in(node.kind),
-        }),
-        None => None,
-    }
+    base.map(|node| Folded {
+        node,
+        attributes: Origin::Base(node.meta.xattrs),
+        entries: entries_in(node.kind),
+    })
 }
 
 // From the bottom: the base node, and what each record makes of it.

@@ -30,22 +30,23 @@ use Rattle.rules.specs.Starts.{entries_at, added_at}
 use Rattle.rules.specs.PlacedStacks.{records_on, node_at}
 use Rattle.rules.proofs.ListPlaces.{added-at, entries-at}
 use Rattle.merge.specs.Pile.{rows_of}
-use Rattle.merge.specs.Sources.{Decided, list_rows}
-use Rattle.merge.proofs.Lists.{pile_rows, rows_append, source_of, list-are, pile-ascends}
-use Rattle.wire.specs.Lists.{Every}
-use Rattle.gather.proofs.Shorts.{every_append, delta-short, base_short}
+use Rattle.merge.specs.Sources.{Decided, sources_of, list_rows}
+use Rattle.merge.proofs.Lists.{pile_rows, rows_append, source_of, list-are}
 use Rattle.stack.proofs.Walks.{records-more}
 use Rattle.nodes.proofs.OneForm.{by_name-one}
 use Rattle.image.specs.declared.kind.FileType.{FileType}
-use Rattle.merge.specs.Merges.{listed, sources_of, lists_if, in_order, rows_in, Pushes, Ready}
-use Rattle.merge.specs.declared.sources.Sources.{Sources}
+use Rattle.merge.specs.Merges.{lists_in, lists_if, in_order, rows_in, Pushes}
+use Rattle.merge.specs.declared.sources.Lists.{Lists}
 use Rattle.merge.specs.declared.merge.AtMostTwo.{AtMostTwo}
 use Rattle.merge.proofs.Merging.{many-two, sources-more}
 use Rattle.stack.specs.Stacks.{records_under, node_in, RecordIs, NodeIs, BaseIs}
 use Rattle.stack.specs.InStack.{RecordIn, BaseIn}
 use Rattle.stack.specs.declared.stack.Stack.{Stack}
 use Rattle.gather.specs.Lists.{is_of, change_lists, delta_lists, entry_lists, node_lists, base_lists}
-use Rattle.gather.specs.Gathers.{Short, body_pile, node_pile, change_pile, alter_pile, delta_pile, pile_of, pile_in, Gathers}
+use Rattle.wire.specs.Lists.{Every}
+use Rattle.merge.specs.Sources.{Short}
+use Rattle.gather.proofs.Shorts.{every_append, delta-short, base_short}
+use Rattle.gather.specs.Gathers.{body_pile, node_pile, change_pile, alter_pile, delta_pile, pile_of, GathersLists}
 use Rattle.gather.specs.declared.gather.Listing.{Listing}
 use Rattle.gather.specs.declared.gather.Listing.TheVariants as L
 
@@ -66,7 +67,15 @@ module _ (img : List ℕ) (u : Under) {p : Part} {end : ℕ} (l : Listed img u p
   -- a list starts as far before its end as it is long
   list-start : p.start ≡ end - length ((by_name u).write (list_at img u p))
   list-start =
-      omega (arith, ap length list-bytes, length-append ((by_name u).write (list_at img u p)) (drop end img), length-drop p.start img, length-drop end img, l.inside, list-long)
+      omega (
+        arith,
+        ap length list-bytes,
+        length-append ((by_name u).write (list_at img u p)) (drop end img),
+        length-drop p.start img,
+        length-drop end img,
+        l.inside,
+        list-long,
+      )
 
   -- as a source it is that of the map
   list-source : {q : ℕ} → p.start ≡ q → list_rows img u p.start ≡ (source_of u q (list_at img u p)).rows
@@ -84,7 +93,15 @@ module _ (img : List ℕ) (p : ℕ) where
       let b : drop d.added.start img ≡ w ++ (v ++ drop end img) = list-bytes img U.Inode l.0 ∙ ap (λ (t : List ℕ). w ++ t) (list-bytes img U.Nothing l.1) in
       let x = same_place img d.added.start (added_at p (fields_meant img d.attr_delta) d.parent) w (v ++ drop end img) (list-long img U.Inode l.0) b a in
       let y : d.removed.start ≡ d.added.start + length w =
-      omega (arith, ap length (list-bytes img U.Inode l.0), length-append w (drop d.removed.start img), length-drop d.added.start img, length-drop d.removed.start img, l.0.inside, list-long img U.Inode l.0) in
+      omega (
+        arith,
+        ap length (list-bytes img U.Inode l.0),
+        length-append w (drop d.removed.start img),
+        length-drop d.added.start img,
+        length-drop d.removed.start img,
+        l.0.inside,
+        list-long img U.Inode l.0,
+      ) in
       rw (list-source img U.Inode l.0 x, list-source img U.Nothing l.1 (y ∙ ap (λ (n : ℕ). n + length w) x))
   change-lists (D.File d) end r l = refl
   change-lists (D.Symlink d) end r l = refl
@@ -105,12 +122,15 @@ module _ (img : List ℕ) (p : ℕ) where
   delta-lists L.Entries of n g = change-lists n g.end g.reads.reads.same g.reads.lists
   delta-lists L.Attributes of n g = alter-lists (is_of of (change_meant img n)) (attr_of n).xattrs (fields_meant img (attr_of n)) g.reads.attributes
 
-  entry-lists : (k : NodeKind) (m : M.Meta) (end : ℕ) → node.read (drop p img) ≡ got (record { meta = m; body = body_meant img k }) (drop end img) → EntriesListed img k end
+  entry-lists : (k : NodeKind) (m : M.Meta) (end : ℕ) → node.read (drop p img) ≡ got (record { meta = m; body = body_meant img k }) (drop end img)
+      → EntriesListed img k end
       → entry_lists img k ≡ pile_rows (body_pile p m (body_meant img k))
   unfolding rows_of
   entry-lists (K.Directory parent es) m end r l =
       let w = (by_name U.Inode).write (list_at img U.Inode es) in
-      rw (list-source img U.Inode l (same_place img es.start (entries_at p m parent) w (drop end img) (list-long img U.Inode l) (list-bytes img U.Inode l) (entries-at img p m parent (list_at img U.Inode es) (drop end img) r)))
+      rw (list-source img U.Inode l
+      (same_place img es.start (entries_at p m parent) w (drop end img) (list-long img U.Inode l) (list-bytes img U.Inode l)
+      (entries-at img p m parent (list_at img U.Inode es) (drop end img) r)))
   entry-lists (K.File size) m end r l = refl
   entry-lists (K.Symlink t) m end r l = refl
   entry-lists K.Fifo m end r l = refl
@@ -135,8 +155,8 @@ base-lists img l (Some p) (Some n) g = rw g.reads.reads.same (node_lists_lem img
 -- ---- the walk from the top
 
 -- what was gathered, with lists more
-abbrev sources_so : List ℕ → Sources → List (List Decided)
-sources_so img all = sources_of img (listed all)
+abbrev sources_so : List ℕ → Lists → List (List Decided)
+sources_so img all = sources_of img (lists_in all)
 
 module _ (s : Stack) (l : Listing) (of : Option FileType) where
   -- the sources of the lowest i records and of the node
@@ -144,14 +164,14 @@ module _ (s : Stack) (l : Listing) (of : Option FileType) where
   pile_under i = pile_rows (pile_of l of (records_under s.img.now s.places i) (node_in s.img.now s.places))
 
   -- the sources of the records from i on are there; those below are left
-  pub record Gathering (all : Sources) (i : ℕ) : Type 0 where
+  pub record Gathering (all : Lists) (i : ℕ) : Type 0 where
     pub low : i ≤ s.places.count
     pub few : all.count + 2 * i ≤ 2 * s.places.count
     pub are : sources_so s.img.now all ++ pile_under i ≡ pile_under s.places.count
     pub short : Every Short (sources_so s.img.now all)
 
-module _ {s : Stack} {l : Listing} {of : Option FileType} {all : Sources} where
-  pub gathering-end : {i : ℕ} → 0 < i → Gathering s l of all i → {e : EntryDelta} → RecordIn s (i - 1) e → e ≡ E.Tombstone → Gathers s l of all
+module _ {s : Stack} {l : Listing} {of : Option FileType} {all : Lists} where
+  pub gathering-end : {i : ℕ} → 0 < i → Gathering s l of all i → {e : EntryDelta} → RecordIn s (i - 1) e → e ≡ E.Tombstone → GathersLists s l of all
   unfolding rows_of
   gathering-end {i} k g {e} d t =
       let z : i ≡ i - 1 + 1 = omega arith in
@@ -161,7 +181,7 @@ module _ {s : Stack} {l : Listing} {of : Option FileType} {all : Sources} where
         short = g.short;
       }
 
-  module _ (f : AtMostTwo) {r : Sources} (p : Pushes all (in_order f) r) where
+  module _ (f : AtMostTwo) {r : Lists} (p : Pushes all (in_order f) r) where
     pub gathering-more : {i : ℕ} → 0 < i → Gathering s l of all i → {e : EntryDelta} → RecordIn s (i - 1) e → {n : NodeDelta} → e ≡ E.Node n
         → rows_in s.img.now f ≡ delta_lists s.img.now l of n → Gathering s l of r (i - 1)
     gathering-more {i} k g {e} d {n} t q =
@@ -179,21 +199,16 @@ module _ {s : Stack} {l : Listing} {of : Option FileType} {all : Sources} where
         }
 
     pub gathering-all : {i : ℕ} → i ≤ 0 → Gathering s l of all i → (o : Option Node) → BaseIn s o → rows_in s.img.now f ≡ base_lists s.img.now l o
-        → Gathers s l of r
+        → GathersLists s l of r
     unfolding records_on
     gathering-all {i} h g o b q =
         let img = s.img.now in
         let z : i ≡ 0 = omega arith in
         let e = rw z at g.are in
-        let a = sources-more img p ∙ rw q in
+        let a : sources_so img r ≡ sources_so img all ++ base_lists img l o = sources-more img p ∙ rw q in
         record {
           are = a ∙ rw (base-lists img l s.places.base o b) e;
           short = rw a (every_append Short (sources_so img all) (base_lists img l o) g.short (base_short img l o));
         }
 
 pub ruleset gathers = (gathering-end)
-
--- ---- what is gathered can be merged
-
-pub gathered-ready : {s : Stack} {l : Listing} {of : Option FileType} {r : Sources} → Gathers s l of r → Ready s.img.now (listed r)
-gathered-ready {s} {l} {of} g = record { ascend = rw g.are (pile-ascends (pile_in l of s)) }

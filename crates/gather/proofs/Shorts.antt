@@ -5,16 +5,12 @@ use Rattle.std.specs.Prelude.{None, Option, Some}
 use mathlib.Core.Path.{◌≡◌, refl}
 use mathlib.Core.Bool.{Bool, true, false, cond}
 use mathlib.Core.List.{List, [], ◌∷◌, ◌++◌}
-use Prim.Native.Nat.{ℕ, zero, suc, ◌+◌, ◌≤◌}
+use Prim.Native.Nat.{ℕ, ◌+◌, ◌≤◌}
 use native.Mathlib.Omega.{arith}
 use lib.ListN.{length, drop}
 use Rattle.wire.specs.Parse.{Parsed, fault, got}
-use Rattle.wire.specs.Combinators.{◌then◌}
 use Rattle.wire.specs.Number.{number_bytes, number_read}
 use Rattle.wire.specs.Lists.{Every, last_count}
-use Rattle.image.specs.Meaning.{Text}
-use Rattle.image.specs.FieldLayout.{name}
-use Rattle.image.specs.Under.{UnderName, under}
 use Rattle.image.specs.declared.name.Under.{Under}
 use Rattle.image.specs.declared.name.Under.TheVariants as U
 use Rattle.image.specs.declared.kind.FileType.{FileType}
@@ -25,9 +21,10 @@ use Rattle.nodes.specs.declared.node.Node.{Node}
 use Rattle.nodes.specs.declared.node.NodeKind.{NodeKind}
 use Rattle.nodes.specs.declared.node.NodeKind.TheVariants as K
 use Rattle.deltas.specs.Deltas.{attr_of, change_meant}
-use Rattle.merge.specs.Sources.{Decided, decided, rows_if, rows_from, list_rows}
+use Rattle.merge.specs.Sources.{rows_if, rows_from, list_rows}
 use Rattle.gather.specs.Lists.{is_of, change_lists, delta_lists, entry_lists, node_lists, base_lists}
-use Rattle.gather.specs.Gathers.{Short}
+use Rattle.merge.specs.Sources.{Short}
+use Rattle.merge.proofs.Few.{rows_few}
 use Rattle.gather.specs.declared.gather.Listing.{Listing}
 use Rattle.gather.specs.declared.gather.Listing.TheVariants as L
 use Rattle.wire.proofs.NumberForms.{number-forth}
@@ -37,24 +34,12 @@ every_append P [] ys h k = k
 every_append P (x ∷ xs) ys h k = (h.0, every_append P xs ys h.1 k)
 
 module _ (img : List ℕ) (u : Under) where
-  rows_few : (n p : ℕ) → length (rows_from img u n p) ≤ n
-  unfolding rows_from
-  rows_few zero p = omega arith
-  rows_few (suc n) p = go ((name then under u).read (drop p img)) (rows_few n)
-    where
-      from : Text × UnderName u → List Decided
-      from e = (e.0, decided u (p + length (number_bytes (length e.0)), e.1)) ∷ rows_from img u n (p + length (name.write e.0 ++ (under u).write e.1))
-
-      go : (o : Parsed (Text × UnderName u)) → ((q : ℕ) → length (rows_from img u n q) ≤ n) → length (rows_if o from) ≤ suc n
-      go (fault f) h = omega arith
-      go (got e r) h = omega (arith, h (p + length (name.write e.0 ++ (under u).write e.1)))
-
   list-few : (p : ℕ) → length (list_rows img u p) ≤ last_count
   list-few p = go (number_read last_count (drop p img)) refl
     where
       go : (o : Parsed ℕ) → number_read last_count (drop p img) ≡ o → length (rows_if o (λ n. rows_from img u n (p + length (number_bytes n)))) ≤ last_count
       go (fault f) e = omega arith
-      go (got n r) e = omega (arith, rows_few n (p + length (number_bytes n)), (number-forth last_count (drop p img) n r e).1)
+      go (got n r) e = omega (arith, rows_few img u n (p + length (number_bytes n)), (number-forth last_count (drop p img) n r e).1)
 
 module _ (img : List ℕ) where
   change-short : (n : NodeDelta) → Every Short (change_lists img n)

@@ -1,15 +1,16 @@
 -- The sources of a placed stack, the topmost first. Document 01, listing: "From the bottom: tombstone clears, a directory delta removes then
 -- adds, other kinds do nothing"; extended attributes: "the first delta naming it decides (set or removed), then the base".
-use Rattle.std.specs.Prelude.{◌≡◌, cond, List, [], ◌∷◌, ◌++◌, ℕ, ◌+◌, ◌≤◌, length, None, Option, Some}
+use Rattle.std.specs.Prelude.{◌≡◌, cond, List, [], ◌∷◌, ◌++◌, ℕ, ◌+◌, length, None, Option, Some}
 use Rattle.image.specs.Meaning.{Entries, Body, Meta, Node, Changes, Fields, Change, Delta, Record, directory, file, symlink, special, tombstone, delta}
 use Rattle.image.specs.FieldLayout.{entries}
 use Rattle.image.specs.declared.kind.FileType.{FileType}
 use Rattle.image.specs.declared.name.Under.TheVariants as U
 use Rattle.rules.specs.Starts.{Placed, attributes_at, entries_at, changes_at, added_at}
-use Rattle.wire.specs.Lists.{Every, last_count}
-use Rattle.merge.specs.Sources.{Decided}
-use Rattle.merge.specs.Merges.{listed, sources_of}
+use Rattle.wire.specs.Lists.{Every}
+use Rattle.merge.specs.Sources.{sources_of, Short}
+use Rattle.merge.specs.Merges.{lists_in, listed}
 use Rattle.merge.proofs.Lists.{Deciding, pile_rows, source_of}
+use Rattle.merge.specs.declared.sources.Lists.{Lists}
 use Rattle.merge.specs.declared.sources.Sources.{Sources}
 use Rattle.stack.specs.Stacks.{records_in, node_in}
 use Rattle.stack.specs.declared.stack.Stack.{Stack}
@@ -37,7 +38,8 @@ node_pile L.Attributes (Some n) = value_pile n.place n.held.meta
 
 -- "a directory delta removes then adds, other kinds do nothing"
 abbrev pub change_pile : ℕ → Fields → Change → List Deciding
-change_pile p f (directory parent added removed) = source_of U.Inode (added_at p f parent) added ∷ (source_of U.Nothing (removed_at p f parent added) removed ∷ [])
+change_pile p f (directory parent added removed) =
+    source_of U.Inode (added_at p f parent) added ∷ (source_of U.Nothing (removed_at p f parent added) removed ∷ [])
 change_pile p f (file n) = []
 change_pile p f (symlink t) = []
 change_pile p f (special s device) = []
@@ -63,11 +65,13 @@ pile_of l of (r ∷ rs) b = record_pile l of r.place r.held (pile_of l of rs b)
 abbrev pub pile_in : Listing → Option FileType → Stack → List Deciding
 pile_in l of s = pile_of l of (records_in s.img.now s.places) (node_in s.img.now s.places)
 
--- a list has no more rows than a count can say
-abbrev pub Short : List Decided → Type 0
-Short l = length l ≤ last_count
+-- the lists are those of the stack
+pub record GathersLists (s : Stack) (l : Listing) (of : Option FileType) (r : Lists) : Type 0 where
+  pub are : sources_of s.img.now (lists_in r) ≡ pile_rows (pile_in l of s)
+  pub short : Every Short (sources_of s.img.now (lists_in r))
 
--- the sources are those of the stack
+-- the sources are those of the stack, in its image
 pub record Gathers (s : Stack) (l : Listing) (of : Option FileType) (r : Sources) : Type 0 where
+  pub image : r.img.now ≡ s.img.now
   pub are : sources_of s.img.now (listed r) ≡ pile_rows (pile_in l of s)
   pub short : Every Short (sources_of s.img.now (listed r))

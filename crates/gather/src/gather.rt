@@ -6,14 +6,14 @@ ghost use Rattle.rules.specs.Fold.{same_kind};
 ghost use Rattle.image.specs.FileTypes.{kind_meant};
 ghost use Rattle.merge.specs.Merges.{rows_in};
 ghost use Rattle.gather.specs.Lists.{is_of, change_lists, alter_lists, delta_lists, entry_lists, node_lists, base_lists};
-ghost use Rattle.gather.specs.Gathers.{Gathers};
+ghost use Rattle.gather.specs.Gathers.{GathersLists, Gathers};
 
 use deltas::delta::{EntryDelta, NodeDelta, attr_delta};
 use image::kind::FileType;
 use image::name::Under;
-use merge::merge::{AtMostTwo, list_if, no_sources, push_lists};
-use merge::source::source_at;
-use merge::sources::Sources;
+use merge::merge::{AtMostTwo, list_if, no_lists, push_lists};
+use merge::read::source_at;
+use merge::sources::{Lists, Sources};
 use nodes::node::{Node, NodeKind};
 use stack::stack::Stack;
 
@@ -104,13 +104,13 @@ fn base_lists(img: &[u8], base: Option<Node>, listing: Listing) -> AtMostTwo
     }
 }
 
-// The sources of a stack; where a type is given, without the attribute changes of deltas of another. A tombstone clears: nothing below it is
+// The lists of a stack; where a type is given, without the attribute changes of deltas of another. A tombstone clears: nothing below it is
 // listed.
 #[tactic(auto, using(crate::proofs::Gathering::gathers))]
-pub fn gather_sources(stack: Stack, listing: Listing, of: Option<FileType>) -> Sources
-    ensures { Gathers stack.entry listing of result }
+fn gather_lists(stack: Stack, listing: Listing, of: Option<FileType>) -> Lists
+    ensures { GathersLists stack.entry listing of result }
 {
-    let mut all = no_sources();
+    let mut all = no_lists();
     for i in (0..stack.places.count).rev() {
         let EntryDelta::Node(delta) = stack.record(i) else {
             return all;
@@ -119,4 +119,16 @@ pub fn gather_sources(stack: Stack, listing: Listing, of: Option<FileType>) -> S
     }
     push_lists(&mut all, base_lists(stack.img, stack.base(), listing));
     all
+}
+
+// The same lists as sources: the names of each rise.
+pub fn gather_sources(stack: Stack, listing: Listing, of: Option<FileType>) -> Sources
+    ensures { Gathers stack.entry listing of result }
+{
+    let Lists { rows, count } = gather_lists(stack, listing, of);
+    Sources {
+        img: stack.img,
+        rows,
+        count,
+    }
 }

@@ -142,7 +142,8 @@ names-one = listed-one by_bytes name nothing name-one nothing-one
 flags-one : MaskedOne flags
 flags-one =
     flag-one word _ word-one (flag-one word _ word-one (flag-one word _ word-one (flag-one word later_flags word-one
-    (flag-one moment _ moment-one (flag-one moment _ moment-one (flag-one moment _ moment-one (flag-one moment _ moment-one (last-one changes changes-one))))))))
+    (flag-one moment _ moment-one (flag-one moment _ moment-one (flag-one moment _ moment-one
+    (flag-one moment _ moment-one (last-one changes changes-one))))))))
 
 pub fields-one : OneForm fields
 unfolding fields

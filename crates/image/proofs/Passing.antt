@@ -1,7 +1,7 @@
 -- How passing over constructs is put together. A construct that stops stays stopped, for the same fault.
 -- Assumes nothing.
 use mathlib.Core.Path.{◌≡◌, refl, sym, ap, ◌∙◌}
-use mathlib.Core.Bool.{Bool, true, false}
+use mathlib.Core.Bool.{true}
 use mathlib.Core.List.{List, ◌∷◌}
 use Rattle.std.specs.Prelude.{Result, Ok, Err, None, Option, Some}
 use Rattle.wire.specs.declared.part.Part.{Part}
@@ -10,7 +10,6 @@ use native.Mathlib.Omega.{arith}
 use lib.Dec.{leb}
 use lib.ListN.{length, drop}
 use Rattle.wire.specs.declared.fault.Fault.{Fault}
-use Rattle.wire.specs.declared.fault.Fault.TheVariants.{Malformed}
 use Rattle.wire.specs.Parse.{Parsed, fault, got, bind, never-got}
 use Rattle.wire.specs.Codec.{Codec, OneForm}
 use Rattle.wire.specs.Combinators.{only, opt-read}
@@ -72,10 +71,12 @@ module _ {A : Type 0} {img : List ℕ} {p : List ℕ → Parsed A} {at : ℕ} wh
 
   module _ {B : Type 0} (k : A → List ℕ → Parsed B) where
     -- one after the other, where the second depends on what the first read
-    pub ends-chosen : {o : Result (A × ℕ) Fault} {a : A} {m : ℕ} {r : Result ℕ Fault} → Reads img p at o → o ≡ Ok (a, m) → Ends img (k a) m r → Ends img (λ s. bind (p s) k) at r
+    pub ends-chosen : {o : Result (A × ℕ) Fault} {a : A} {m : ℕ} {r : Result ℕ Fault} → Reads img p at o → o ≡ Ok (a, m) → Ends img (k a) m r → Ends img
+        (λ s. bind (p s) k) at r
     ends-chosen h d g = let i = rw d at h in record { same = rw (i.same) g.same; within = g.within }
 
-    pub ends-unchosen : {o : Result (A × ℕ) Fault} {r : Result ℕ Fault} {f : Fault} → Reads img p at o → o ≡ Err f → r ≡ Err f → Ends img (λ s. bind (p s) k) at r
+    pub ends-unchosen : {o : Result (A × ℕ) Fault} {r : Result ℕ Fault} {f : Fault} → Reads img p at o → o ≡ Err f → r ≡ Err f → Ends img (λ s. bind (p s) k)
+        at r
     ends-unchosen h d e = let i = rw d at h in rw e (record { same = rw (i.same); within = tt })
 
     -- where the first stops, nothing follows
@@ -90,18 +91,6 @@ module _ {A : Type 0} {img : List ℕ} {p : List ℕ → Parsed A} {at : ℕ} wh
         let e = ends-got (rw d at h) in
         record { same = rw (e.1) (passed-made (f e.0) (q (drop m img)) ∙ g.same); within = g.within }
 
--- what passes a test, judged where it was read
-module _ {A : Type 0} {img : List ℕ} (c : Codec A) (test : A → Bool) {at : ℕ} where
-  module _ {a : A} {m : ℕ} (h : Reads img c.read at (Ok (a, m))) where
-    pub only_kept : test a ≡ true → Reads img (only test c).read at (Ok (a, m))
-    only_kept e = record { same = rw (h.same, e); within = h.within }
-
-    pub only-refused : test a ≡ false → Reads img (only test c).read at (Err Malformed)
-    only-refused e = record { same = rw (h.same, e); within = tt }
-
-  pub only-stopped : {f : Fault} → Reads img c.read at (Err f) → Reads img (only test c).read at (Err f)
-  only-stopped h = record { same = rw (h.same); within = tt }
-
 -- a field that is there, or not
 module _ {A : Type 0} (p : List ℕ → Parsed A) {img : List ℕ} {bit at : ℕ} where
   pub ends-absent : bit ≡ 0 → at ≤ length img → Ends img (opt-read p bit) at (Ok at)
@@ -112,7 +101,22 @@ module _ {A : Type 0} (p : List ℕ → Parsed A) {img : List ℕ} {bit at : ℕ
   unfolding opt-read
   ends-present n l h = let e : bit ≡ 1 = omega arith in rw e (ends-made Some h)
 
-pub ruleset passes = (ends-read, ends-unread, ends-text, ends-no_text, ends-chosen, ends-unchosen, ends-then, ends-stop, ends-made, ends-absent, ends-present, number-most, read-in, handed)
+pub ruleset passes = (
+  ends-read,
+  ends-unread,
+  ends-text,
+  ends-no_text,
+  ends-chosen,
+  ends-unchosen,
+  ends-then,
+  ends-stop,
+  ends-made,
+  ends-absent,
+  ends-present,
+  number-most,
+  read-in,
+  handed,
+)
 
 -- ---- a list whose keys rise, one row at a time
 
@@ -141,7 +145,8 @@ module _ {K A : Type 0} (O : Order K) (key : Codec K) (value : Codec A) where
         go (suc n) h = rw (a.same)
 
     module _ {k : K} {m : ℕ} (a : Reads img (key_after prev) here (Ok (k, m))) where
-      rows_on : {q : ℕ} → Ends img value.read m (Ok q) → last_of prev (rows_from O key value n prev (drop here img)) ≡ last_of (Some k) (rows_from O key value (n - 1) (Some k) (drop q img))
+      rows_on : {q : ℕ} → Ends img value.read m (Ok q) → last_of prev (rows_from O key value n prev (drop here img)) ≡ last_of (Some k)
+          (rows_from O key value (n - 1) (Some k) (drop q img))
       rows_on {q} b = let g = ends-got b in rows_step n prev (drop here img) (drop q img) {k = k} {v = g.0} h (rw (a.same, g.1))
 
       rows-fault : {f : Fault} → Ends img value.read m (Err f) → last_of prev (rows_from O key value n prev (drop here img)) ≡ fault f
@@ -157,7 +162,8 @@ module _ {K A : Type 0} (O : Order K) (key : Codec K) (value : Codec A) where
 
   -- the rows that were read are a map
   module _ (most : ℕ) (limit : leb most edge ≡ true) (one_key : OneForm key) (one_value : OneForm value) where
-    rising-passed : (s : List ℕ) (o : Parsed (List (K × A))) → (rows O key value most limit).read s ≡ o → passed (rising-read O key value most limit s) ≡ passed o
+    rising-passed : (s : List ℕ) (o : Parsed (List (K × A))) → (rows O key value most limit).read s ≡ o → passed (rising-read O key value most limit s) ≡
+        passed o
     unfolding rising-read
     rising-passed s (fault f) e = rw e
     rising-passed s (got l r) e =
@@ -172,7 +178,8 @@ module _ {K A : Type 0} (O : Order K) (key : Codec K) (value : Codec A) where
         let i : Ends img (rows O key value most limit).read at _ = ends-chosen (λ n r. rows_from O key value n None r) h d g in
         record { same = rising-passed (drop at img) ((rows O key value most limit).read (drop at img)) refl ∙ i.same; within = i.within }
 
-    pub ends-unlisted : {img : List ℕ} {at : ℕ} {o : Result (ℕ × ℕ) Fault} {r : Result ℕ Fault} {f : Fault} → Reads img (number_read most) at o → o ≡ Err f → r ≡ Err f
+    pub ends-unlisted : {img : List ℕ} {at : ℕ} {o : Result (ℕ × ℕ) Fault} {r : Result ℕ Fault} {f : Fault} → Reads img (number_read most) at o → o ≡ Err f →
+        r ≡ Err f
         → Ends img (rising O key value most limit).read at r
     ends-unlisted {img} {at} h d e =
         let i : Ends img (rows O key value most limit).read at _ = ends-unchosen (λ n r. rows_from O key value n None r) h d e in

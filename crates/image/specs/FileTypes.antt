@@ -1,7 +1,10 @@
 -- What a type of the code means.
-use Rattle.std.specs.Prelude.{Option}
+use Rattle.std.specs.Prelude.{◌≡◌, ℕ, ◌<◌, ◌≤◌, Option, Result, Ok, Err}
 use Rattle.std.specs.Option.{option_map}
+use Rattle.wire.specs.declared.fault.Fault.{Fault}
+use Rattle.wire.specs.declared.fault.Fault.TheVariants.{Malformed}
 use Rattle.image.specs.Meaning.{Kind, directory, file, symlink, special, pipe, character, block, socket}
+use Rattle.image.specs.KindLayout.{kind_at}
 use Rattle.image.specs.declared.kind.FileType.{FileType}
 use Rattle.image.specs.declared.kind.FileType.TheVariants as K
 
@@ -18,3 +21,8 @@ kind_meant K.Socket = special socket
 -- "code 0 tombstone or kind + 1": the kind, or none for a tombstone
 abbrev pub code_meant : Option FileType → Option Kind
 code_meant = option_map kind_meant
+
+-- the type of a number, which is badly formed if it is above 6
+abbrev pub KindOf : ℕ → Result FileType Fault → Type 0
+KindOf n (Ok t) = (n ≤ 6) × (kind_meant t ≡ kind_at n)
+KindOf n (Err f) = (6 < n) × (f ≡ Malformed)

@@ -4,6 +4,7 @@ pub mod Fits
 pub mod Masks
 pub mod FieldLayout
 pub mod Places
+pub mod Rows
 pub mod Under
 pub mod KindLayout
 pub mod FileTypes

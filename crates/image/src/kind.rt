@@ -2,10 +2,11 @@
 ghost use Rattle.std.specs.Prelude.{◌≤◌, ◌≡◌};
 ghost use Rattle.wire.specs.Reading.{Reads, meant};
 ghost use Rattle.image.specs.Meaning.{kind_number};
-ghost use Rattle.image.specs.KindLayout.{kind, kind_at, code};
+ghost use Rattle.image.specs.KindLayout.{kind, code};
 ghost use Rattle.image.specs.Letters.{letter, letter_of};
-ghost use Rattle.image.specs.FileTypes.{kind_meant, code_meant};
+ghost use Rattle.image.specs.FileTypes.{kind_meant, code_meant, KindOf};
 
+use std::fmt;
 use wire::fault::Fault;
 use wire::number::read_number;
 
@@ -22,7 +23,7 @@ pub enum FileType {
 }
 
 impl FileType {
-    // Its number in the image.
+    // Its number in the image: a method and no `From`, since a record's code is another number of it.
     pub fn number(self) -> u64
         ensures { (result ≡ kind_number (kind_meant self)) × (result ≤ 6) }
     {
@@ -37,7 +38,22 @@ impl FileType {
     }
 }
 
-// The letter that a listing shows for the kind of this number; numbers above 6 are no kind. It takes any number, so no `FileType`.
+impl fmt::Display for FileType {
+    fn fmt<W: fmt::Write>(&self, f: &mut fmt::Formatter<W>) -> fmt::Result {
+        f.write_str(match self {
+            FileType::Directory => "directory",
+            FileType::RegularFile => "file",
+            FileType::Symlink => "symlink",
+            FileType::NamedPipe => "pipe",
+            FileType::CharDevice => "character device",
+            FileType::BlockDevice => "block device",
+            FileType::Socket => "socket",
+        })
+    }
+}
+
+// The letter that a listing shows for the kind of this number; numbers above 6 are no kind. The project fixes this form:
+// a `match` from any number (docs/DECISIONS.md).
 pub fn type_letter(kind: u64) -> Option<u8>
     ensures { result ≡ letter_of kind }
 {
@@ -53,18 +69,23 @@ pub fn type_letter(kind: u64) -> Option<u8>
     }
 }
 
-// The kind of this number, which is at most 6.
-fn numbered(number: u64) -> FileType
-    ensures { kind_meant result ≡ kind_at number }
-{
-    match number {
-        0 => FileType::Directory,
-        1 => FileType::RegularFile,
-        2 => FileType::Symlink,
-        3 => FileType::NamedPipe,
-        4 => FileType::CharDevice,
-        5 => FileType::BlockDevice,
-        _ => FileType::Socket,
+// The kind of a number; one above 6 is badly formed.
+impl TryFrom<u64> for FileType {
+    type Error = Fault;
+
+    ghost try_from_gives = { KindOf };
+
+    fn try_from(number: u64) -> Result<FileType, Fault> {
+        match number {
+            0 => Ok(FileType::Directory),
+            1 => Ok(FileType::RegularFile),
+            2 => Ok(FileType::Symlink),
+            3 => Ok(FileType::NamedPipe),
+            4 => Ok(FileType::CharDevice),
+            5 => Ok(FileType::BlockDevice),
+            6 => Ok(FileType::Socket),
+            _ => Err(Fault::Malformed),
+        }
     }
 }
 
@@ -74,7 +95,8 @@ pub fn read_file_type(img: &[u8], at: usize) -> Result<(FileType, usize), Fault>
     ensures { Reads img.now kind.read at (meant kind_meant result) }
 {
     let (number, next) = read_number(img, at, 6)?;
-    Ok((numbered(number), next))
+    let kind = FileType::try_from(number)?;
+    Ok((kind, next))
 }
 
 // The code of a record at `at`: the kind that its delta is of, or none for a tombstone; and the place after it.
@@ -86,5 +108,6 @@ pub fn read_code(img: &[u8], at: usize) -> Result<(Option<FileType>, usize), Fau
     if number == 0 {
         return Ok((None, next));
     }
-    Ok((Some(numbered(number - 1)), next))
+    let kind = FileType::try_from(number - 1)?;
+    Ok((Some(kind), next))
 }

@@ -27,11 +27,19 @@ pub enum Under {
     Change,
 }
 
-// The name at `at`, which is after the one before it, if there is one, and the place after it.
+// A name at `at`: 1 to 255 bytes; and the place after it.
+pub fn read_name(img: &[u8], at: usize) -> Result<(Part, usize), Fault>
+    ensures { ReadsPart img.now nameText.read at result }
+{
+    read_text(img, at, 1, 255)
+}
+
+// The name at `at`, which is after the one before it, if there is one, and the place after it. Beside `inode_after` (passes): the two share
+// no more than that there may be none before; how a key is read, compared and promised differs.
 pub fn name_after(img: &[u8], at: usize, before: Option<Part>) -> Result<(Part, usize), Fault>
     ensures { ReadsPart img.now (only (after by_bytes (name_before img.now before)) nameText).read at result }
 {
-    let (name, next) = read_text(img, at, 1, 255)?;
+    let (name, next) = read_name(img, at)?;
     let Some(last) = before else {
         return Ok((name, next));
     };
@@ -79,7 +87,8 @@ pub fn pass_names(img: &[u8], at: usize, what: Under) -> Result<usize, Fault>
     names_from(img, first, count, what)
 }
 
-// Passes `count` rows of a list by name, the first of which is at `first`.
+// Passes `count` rows of a list by name, the first of which is at `first`. Not `find_from` (passes), which compares each key with the one that it
+// looks for.
 #[tactic(auto, using(crate::proofs::Passing::passes_rows))]
 fn names_from(img: &[u8], first: usize, count: u64, what: Under) -> Result<usize, Fault>
     requires { first ≤ length img.now }

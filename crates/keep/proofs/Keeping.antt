@@ -1,20 +1,17 @@
 -- A list by name in step with the names that lead somewhere below: which rows stay.
 -- Assumes nothing.
-use Rattle.std.specs.Prelude.{None, Option, Some, is_some, Result, Ok, Err, not}
+use Rattle.std.specs.Prelude.{None, Option, Some}
 use mathlib.Core.Path.{◌≡◌, refl, sym, ap, ◌∙◌}
 use mathlib.Core.Bool.{Bool, true, false, cond}
 use mathlib.Core.List.{List, [], ◌∷◌, ◌++◌}
 use Prim.Native.Nat.{ℕ, zero, suc, ◌+◌, ◌-◌, ◌≤◌, ◌<◌}
 use native.Mathlib.Omega.{arith}
-use lib.Dec.{eqb}
 use lib.ListN.{length, drop}
-use Rattle.std.specs.Result.{result_unwrap_or}
-use Rattle.wire.specs.declared.fault.Fault.{Fault}
 use Rattle.std.specs.declared.cmp.Ordering.{Ordering}
 use Rattle.std.specs.declared.cmp.Ordering.TheVariants.{Less, Equal, Greater}
-use Rattle.wire.specs.Parse.{got, never-got}
+use Rattle.wire.specs.Parse.{got}
 use Rattle.wire.specs.Combinators.{◌then◌}
-use Rattle.wire.specs.Number.{edge, number_read, number_bytes}
+use Rattle.wire.specs.Number.{edge, number_bytes}
 use Rattle.wire.specs.Order.{Order}
 use Rattle.wire.specs.Orders.{by_bytes}
 use Rattle.wire.specs.Rows.{choose, lookup, Under, Rising}
@@ -22,34 +19,33 @@ use Rattle.wire.specs.RowLaws.{lookup-under, under-below, never-lt, ext}
 use Rattle.wire.specs.Maps.{Map, get, keep, sift, get-keep}
 use Rattle.wire.specs.Lists.{Every}
 use Rattle.image.specs.Places.{rows_from}
-use Rattle.rules.specs.Reads.{is_there}
 use Rattle.change.proofs.Cutting.{chain-rows}
 use Rattle.wire.specs.Put.{Put}
-use Rattle.wire.specs.Reading.{Reads}
 use Rattle.wire.proofs.Puts.{put-append, put-length}
 use Rattle.image.specs.Meaning.{Text}
 use Rattle.image.specs.FieldLayout.{name}
 use Rattle.image.specs.Under.{UnderName, under}
 use Rattle.image.specs.declared.name.Under as UnderN
-use Rattle.image.specs.declared.name.Under.TheVariants as U
 use Rattle.nodes.specs.Options.{text_at}
-use Rattle.nodes.specs.Listed.{by_name, list_at}
-use Rattle.wire.specs.declared.part.Part.{Part}
+use Rattle.image.specs.declared.rows.Rows.{Rows}
+use Rattle.wire.specs.declared.put.Written.{Written}
 use Rattle.writers.proofs.Writing.{part-written}
 use Rattle.rules.specs.Changes.{map_if}
-use Rattle.lookup.specs.Search.{IsList, row_name, Standing, ReadsRow}
+use Rattle.lookup.specs.Search.{row_name, Standing, list_in, ListRows, ReadsRow}
+use Rattle.lookup.specs.declared.list.NameList.{NameList}
 use Rattle.lookup.specs.declared.search.RowRead.{RowRead}
-use Rattle.lookup.proofs.Searching.{Taken, row-taken, read_same}
+use Rattle.lookup.proofs.Searching.{list-is, Taken, row-taken}
 use Rattle.merge.specs.Pile.{itself}
-use Rattle.merge.specs.Merges.{sources_of, given_by, given_of_row, gives_from, Gives}
-use Rattle.merge.specs.declared.source.Source.{Source}
+use Rattle.merge.specs.Sources.{sources_of}
+use Rattle.merge.specs.Merges.{listed, given_in, given_of_row, Gives, Settles}
+use Rattle.merge.specs.declared.sources.Sources.{Sources}
 use Rattle.merge.specs.declared.merge.Row.{Row}
+use Rattle.merge.specs.declared.merge.Merge.{Merge}
 use Rattle.merge.proofs.Piles.{rising-pile}
 use Rattle.change.specs.Cuts.{rows_bytes}
 use Rattle.change.specs.Sections.{between}
 use Rattle.keep.specs.Below.{inode_given}
-use Rattle.keep.specs.Keeps.{keeps, kept_map, keep_rows, kept_rows, leads_from, Rises, Sought, Keeps, PutsRow, PutsKept}
-use Rattle.keep.specs.declared.keep.Kept.{Kept}
+use Rattle.keep.specs.Keeps.{keeps, kept_map, kept_bytes, keep_rows, kept_rows, names_of, leads_in, Rises, Sought, Keeps, PutsRow, PutsKept}
 use Rattle.nodes.proofs.OneForm.{by_name-one}
 use Rattle.wire.proofs.OneForm.{then-one}
 use Rattle.image.proofs.OneForm.{name-one, under-one}
@@ -89,104 +85,69 @@ module _ {K A : Type 0} (O : Order K) (p : K → A → Bool) where
 
   pub keep-are : (m : Map O A) → (keep O p m).rows ≡ keep_rows p m.rows
   unfolding get
-  keep-are m = ext O (keep O p m).rows (keep_rows p m.rows) (keep O p m).rising (keep-rising m.rows m.rising) (λ k. get-keep O p k m ∙ sym (keep-lookup k m.rows m.rising))
+  keep-are m =
+      ext O (keep O p m).rows (keep_rows p m.rows) (keep O p m).rising (keep-rising m.rows m.rising)
+      (λ k. get-keep O p k m ∙ sym (keep-lookup k m.rows m.rising))
 
 -- ---- the names that lead somewhere, up to one
 
 -- those of settled sources rise
-pub settled-rises : {img : List ℕ} {l rest : List Source} {o : Option Row} → Gives img l o rest → Rises img o rest
-settled-rises {img} {l} s = record { ready = s.ready; rising = rw s.gives at (rising-pile by_bytes (itself by_bytes) (sources_of img l)) }
+pub settled-rises : (all : Sources) (m : Merge) → Settles all m → Rises m
+settled-rises all m s = rw s.gives at (rising-pile by_bytes (itself by_bytes) (sources_of all.img.now (listed all)))
 
 -- those that are less are passed: what is left leads where it led at first
-pub record Seeking (img : List ℕ) (o₀ : Option Row) (l₀ : List Source) (k : Text) (o : Option Row) (l : List Source) : Type 0 where
-  pub rises : Rises img o l
-  pub same : (j : Text) → (by_bytes.cmp j k ≡ Less → ⊥) → leads_from img o l j ≡ leads_from img o₀ l₀ j
-
-pub seeking-start : {img : List ℕ} {o : Option Row} {l : List Source} {k : Text} → Rises img o l → Seeking img o l k o l
-seeking-start r = record { rises = r; same = λ j h. refl }
+pub record Seeking (m₀ : Merge) (k : Text) (m : Merge) : Type 0 where
+  pub rises : Rises m
+  pub same : (j : Text) → (by_bytes.cmp j k ≡ Less → ⊥) → leads_in m j ≡ leads_in m₀ j
 
 not-less : (k : Text) → by_bytes.cmp k k ≡ Less → ⊥
 not-less k z = never-lt _ z (by_bytes.self k)
 
-module _ {img : List ℕ} {o₀ : Option Row} {l₀ : List Source} {k : Text} {o : Option Row} {l : List Source} (g : Seeking img o₀ l₀ k o l) where
-  found : {x : Option ℕ} → x ≡ leads_from img o l k → Sought img o₀ l₀ k x o l
+module _ {m₀ : Merge} {k : Text} {m : Merge} (g : Seeking m₀ k m) where
+  found : {x : Option ℕ} → x ≡ leads_in m k → Sought m₀ k x m
   found e = record { leads = e ∙ g.same k (not-less k); rises = g.rises; same = g.same }
 
-  pub seeking-end : o ≡ None → Sought img o₀ l₀ k None o l
+  pub seeking-end : m.first ≡ None → Sought m₀ k None m
   unfolding lookup
   seeking-end e = found (rw e)
 
-  module _ {a : Row} (i : o ≡ Some a) {x : Ordering} {n : Text} (d : x ≡ by_bytes.cmp (text_at img a.name) n) (e : n ≡ k) where
-    rows : gives_from img o l ≡ given_of_row img a ∷ given_by img l
+  module _ {a : Row} (i : m.first ≡ Some a) {x : Ordering} (d : x ≡ by_bytes.cmp (text_at m.all.img.now a.name) k) where
+    abbrev key : Text
+    key = text_at m.all.img.now a.name
+
+    rows : names_of m ≡ given_of_row m.all.img.now a ∷ given_in m.all
     rows = rw i
 
-    seen : (y : Ordering) → x ≡ y → by_bytes.cmp (text_at img a.name) k ≡ y
-    seen y t = rw (← e, ← d) t
+    seen : (y : Ordering) → x ≡ y → by_bytes.cmp key k ≡ y
+    seen y t = sym d ∙ t
 
-    pub seeking-equal : x ≡ Equal → Sought img o₀ l₀ k (Some a.given.inode) o l
+    pub seeking-equal : x ≡ Equal → Sought m₀ k (Some a.given.inode) m
     unfolding lookup
-    seeking-equal t = found (rw (rows, by_bytes.same (text_at img a.name) k (seen Equal t), by_bytes.self k))
+    seeking-equal t = found (rw (rows, by_bytes.same key k (seen Equal t), by_bytes.self k))
 
-    pub seeking-greater : x ≡ Greater → Sought img o₀ l₀ k None o l
+    pub seeking-greater : x ≡ Greater → Sought m₀ k None m
     seeking-greater t =
-        let z = by_bytes.flip (text_at img a.name) k (seen Greater t) in
-        let u = rw rows at g.rises.rising in
-        let below = under-below by_bytes k (text_at img a.name) (given_by img l) z u.0 in
-        found (rw rows (ap (map_if inode_given) (sym (lookup-under by_bytes k (given_of_row img a ∷ given_by img l) (z, below)))))
+        let z = by_bytes.flip key k (seen Greater t) in
+        let u = rw rows at g.rises in
+        let below = under-below by_bytes k key (given_in m.all) z u.0 in
+        found (rw rows (ap (map_if inode_given) (sym (lookup-under by_bytes k (given_of_row m.all.img.now a ∷ given_in m.all) (z, below)))))
 
-    module _ (t : x ≡ Less) {p : Option Row} {rest : List Source} (s : Gives img l p rest) where
-      one-row : gives_from img o l ≡ given_of_row img a ∷ gives_from img p rest
+    module _ (t : x ≡ Less) {n : Merge} (s : Gives m.all n.first n.all) where
+      one-row : names_of m ≡ given_of_row m.all.img.now a ∷ names_of n
       one-row = rw (i, s.gives)
 
-      pub seeking-less : length (gives_from img p rest) < length (gives_from img o l)
-      seeking-less = rw one-row (omega arith)
-
-      pub seeking-more : Seeking img o₀ l₀ k p rest
+      pub seeking-more : Seeking m₀ k n
       unfolding lookup
-      seeking-more = record { rises = settled-rises s; same = λ j h. sym (passes j h) ∙ g.same j h }
+      seeking-more = record { rises = settled-rises m.all n s; same = λ j h. sym (passes j h) ∙ g.same j h }
         where
-          passes : (j : Text) → (by_bytes.cmp j k ≡ Less → ⊥) → leads_from img o l j ≡ leads_from img p rest j
-          passes j h = rw one-row (go (by_bytes.cmp j (text_at img a.name)) refl)
+          passes : (j : Text) → (by_bytes.cmp j k ≡ Less → ⊥) → leads_in m j ≡ leads_in n j
+          passes j h = rw one-row (go (by_bytes.cmp j key) refl)
             where
-              go : (y : Ordering) → by_bytes.cmp j (text_at img a.name) ≡ y
-                  → map_if inode_given (choose y (Some (given_of_row img a).1) (lookup by_bytes j (gives_from img p rest))) ≡ leads_from img p rest j
+              go : (y : Ordering) → by_bytes.cmp j key ≡ y
+                  → map_if inode_given (choose y (Some (given_of_row m.all.img.now a).1) (lookup by_bytes j (names_of n))) ≡ leads_in n j
               go Less q = refl
               go Greater q = refl
-              go Equal q = absurd (h (rw (by_bytes.same j (text_at img a.name) q) (seen Less t)))
-
--- ---- whether a row stays
-
-module _ {img : List ℕ} {b : Option ℕ} {p : ℕ} where
-  pub keeps-unled : b ≡ None → Keeps img U.Inode b p true
-  keeps-unled e = record { is = λ v s d. rw e }
-
-  module _ {i : ℕ} (e : b ≡ Some i) {o : Result (ℕ × ℕ) Fault} (a : Reads img (number_read edge) p o) {x : ℕ × ℕ} (z : x ≡ result_unwrap_or o (0, 0)) where
-    read-is : {v : ℕ} {s : List ℕ} → number_read edge (drop p img) ≡ got v s → x.0 ≡ v
-    read-is {v} d = go o a z
-      where
-        go : (o : Result (ℕ × ℕ) Fault) → Reads img (number_read edge) p o → x ≡ result_unwrap_or o (0, 0) → x.0 ≡ v
-        go (Ok y) a z = ap (λ (x : ℕ × ℕ). x.0) z ∙ read_same d a refl
-        go (Err f) a z = never-got (sym a.same ∙ d)
-
-    pub keeps_entry : Keeps img U.Inode b p (not (eqb i x.0))
-    keeps_entry = record { is = λ v s d. rw (e, read-is d) }
-
-is_there-some : (o : Option ℕ) → is_some o ≡ is_there o
-is_there-some None = refl
-is_there-some (Some i) = refl
-
-module _ {img : List ℕ} {u : UnderN.Under} {o : Option ℕ} {p : ℕ} {r : Bool} where
-  pub keeps-inode : u ≡ U.Inode → Keeps img U.Inode o p r → Keeps img u o p r
-  keeps-inode e h = rw e h
-
-  pub keeps-name : u ≡ U.Nothing → r ≡ is_some o → Keeps img u o p r
-  keeps-name e h = rw e (record { is = λ v s d. h ∙ is_there-some o })
-
-  pub keeps-value : u ≡ U.Value → r ≡ is_some o → Keeps img u o p r
-  keeps-value e h = rw e (record { is = λ v s d. h ∙ is_there-some o })
-
-  pub keeps-change : u ≡ U.Change → r ≡ is_some o → Keeps img u o p r
-  keeps-change e h = rw e (record { is = λ v s d. h ∙ is_there-some o })
+              go Equal q = absurd (h (rw (by_bytes.same j key q) (seen Less t)))
 
 -- ---- the rows that stay, one after the other
 
@@ -195,39 +156,25 @@ bytes_of u l = rows_bytes name (under u) l
 
 -- of the rows `all` these are left, from here on
 pub record Progress (img : List ℕ) (u : UnderN.Under) (f : Text → Option ℕ) (old : List ℕ) (at : ℕ) (all : List (Text × UnderName u)) (here left : ℕ)
-    (o : Option Row) (rest : List Source) (buf : List ℕ) (k : Kept) : Type 0 where
+    (names : Merge) (buf : List ℕ) (k : Written) : Type 0 where
   pub prev : Option Text
   pub rows : List (Text × UnderName u)
   pub standing : Standing img u prev here left rows
-  pub agree : Every (λ (e : Text × UnderName u). leads_from img o rest e.0 ≡ f e.0) rows
-  pub put : (r : ℕ) (new : List ℕ) → Put buf k.at (bytes_of u (kept_rows u f rows)) r new → Put old at (bytes_of u (kept_rows u f all)) r new
+  pub agree : Every (λ (e : Text × UnderName u). leads_in names e.0 ≡ f e.0) rows
+  pub put : (r : ℕ) (new : List ℕ) → Put buf k.end (bytes_of u (kept_rows u f rows)) r new → Put old at (bytes_of u (kept_rows u f all)) r new
   pub counts : k.count + length (kept_rows u f rows) ≡ length (kept_rows u f all)
 
-pub record Keeping (img : List ℕ) (u : UnderN.Under) (f : Text → Option ℕ) (old : List ℕ) (at first total here left : ℕ) (o : Option Row) (rest : List Source)
-    (buf : List ℕ) (k : Kept) : Type 0 where
-  pub rises : Rises img o rest
-  pub low : k.at ≤ edge
+pub record Keeping (img : List ℕ) (u : UnderN.Under) (f : Text → Option ℕ) (old : List ℕ) (at first total here left : ℕ) (names : Merge)
+    (buf : List ℕ) (k : Written) : Type 0 where
+  pub rises : Rises names
+  pub low : k.end ≤ edge
   pub same : length buf ≡ length old
   pub short : length old < edge
-  pub kept : (l : List (Text × UnderName u)) → Standing img u None first total l → Progress img u f old at l here left o rest buf k
-
-agree-start : {A : Type 0} (f : Text → Option ℕ) (l : List (Text × A)) → Every (λ (e : Text × A). f e.0 ≡ f e.0) l
-agree-start f [] = tt
-agree-start f (e ∷ l) = (refl, agree-start f l)
-
-pub keeping_start : {img : List ℕ} {u : UnderN.Under} {o : Option Row} {l : List Source} {old : List ℕ} {at first total : ℕ} → Rises img o l → at ≤ edge
-    → length old < edge
-    → Keeping img u (leads_from img o l) old at first total first total o l old (record { at = at; count = 0 })
-keeping_start {img} {u} {o} {l} r a s = record {
-  rises = r;
-  low = a;
-  same = refl;
-  short = s;
-  kept = λ rows w. record { prev = None; rows = rows; standing = w; agree = agree-start (leads_from img o l) rows; put = λ r new p. p; counts = omega arith };
-}
+  pub kept : (l : List (Text × UnderName u)) → Standing img u None first total l → Progress img u f old at l here left names buf k
 
 -- no row is left
-rows_end : {img : List ℕ} {u : UnderN.Under} {prev : Option Text} {here left : ℕ} {l : List (Text × UnderName u)} → left ≤ 0 → Standing img u prev here left l → l ≡ []
+rows_end : {img : List ℕ} {u : UnderN.Under} {prev : Option Text} {here left : ℕ} {l : List (Text × UnderName u)}
+    → left ≤ 0 → Standing img u prev here left l → l ≡ []
 rows_end {img} {u} {prev} {here} {left} {l} h w = go left h l w.read
   where
     go : (n : ℕ) → n ≤ 0 → (l : List (Text × UnderName u)) → rows_from by_bytes name (under u) n prev (drop here img) ≡ got l w.rest → l ≡ []
@@ -246,38 +193,21 @@ keep-few p (e ∷ l) = go (p e.0 e.1) (keep-few p l)
     go true h = omega arith
     go false h = omega arith
 
-module _ {img : List ℕ} {u : UnderN.Under} {f : Text → Option ℕ} {old : List ℕ} {at first total here left : ℕ} {o : Option Row} {rest : List Source}
-    {buf : List ℕ} {k : Kept}
-    (g : Keeping img u f old at first total here left o rest buf k) where
-  module _ {p : Part} (l : Standing img u None first total (list_at img u p).rows) where
-    pub keeping_all : left ≤ 0 → PutsKept img u p f old at k buf
-    unfolding rows_bytes
-    keeping_all h =
-        let q = g.kept (list_at img u p).rows l in
-        let z = rows_end h q.standing in
-        record {
-          put = q.put k.at buf (rw z (put-none (omega (arith, g.short, g.same)) g.low));
-          count = omega (arith, q.counts, ap (λ (l : List (Text × UnderName u)). length (kept_rows u f l)) z);
-        }
-
-    -- there is no more than the list's count
-    pub keeping-few : IsList img u p → k.count < edge
-    keeping-few i =
-        let q = g.kept (list_at img u p).rows l in
-        omega (arith, q.counts, keep-few (λ k v. keeps u (f k) v) (list_at img u p).rows, ((by_name-one u).forth _ _ _ i.1.is).1.0)
-
-  module _ (h : 0 < left) {r : RowRead} (w : ReadsRow img u here r) {x : Option ℕ} {p : Option Row} {seen : List Source}
-      (s : Sought img o rest (row_name img r) x p seen) where
+module _ {img : List ℕ} {u : UnderN.Under} {f : Text → Option ℕ} {old : List ℕ} {at first total here left : ℕ} {names : Merge}
+    {buf : List ℕ} {k : Written}
+    (g : Keeping img u f old at first total here left names buf k) where
+  module _ (h : 0 < left) {r : RowRead} (w : ReadsRow img u here r) {x : Option ℕ} {seen : Merge}
+      (s : Sought names (row_name img r) x seen) where
     -- the names after the row's are not less
-    later : (l : List (Text × UnderName u)) → Under by_bytes (row_name img r) l → Every (λ (e : Text × UnderName u). leads_from img o rest e.0 ≡ f e.0) l
-        → Every (λ (e : Text × UnderName u). leads_from img p seen e.0 ≡ f e.0) l
+    later : (l : List (Text × UnderName u)) → Under by_bytes (row_name img r) l → Every (λ (e : Text × UnderName u). leads_in names e.0 ≡ f e.0) l
+        → Every (λ (e : Text × UnderName u). leads_in seen e.0 ≡ f e.0) l
     later [] v a = tt
     later (e ∷ l) v a =
         (s.same e.0 (λ z. never-lt _ (by_bytes.trans (row_name img r) e.0 (row_name img r) v.0 z) (by_bytes.self (row_name img r))) ∙ a.0, later l v.1 a.1)
 
-    module _ {b : Bool} (d : Keeps img u x r.under b) {k2 : Kept} {out : List ℕ} (w₂ : PutsRow (between img here r.next) b k buf k2 out) where
-      module _ (all : List (Text × UnderName u)) (q : Progress img u f old at all here left o rest buf k) (t : Taken img u left q.rows r w.value) where
-        agrees : Every (λ (e : Text × UnderName u). leads_from img o rest e.0 ≡ f e.0) ((row_name img r, w.value) ∷ t.others)
+    module _ {b : Bool} (d : Keeps img u x r.under b) {k2 : Written} {out : List ℕ} (w₂ : PutsRow (between img here r.next) b k buf k2 out) where
+      module _ (all : List (Text × UnderName u)) (q : Progress img u f old at all here left names buf k) (t : Taken img u left q.rows r w.value) where
+        agrees : Every (λ (e : Text × UnderName u). leads_in names e.0 ≡ f e.0) ((row_name img r, w.value) ∷ t.others)
         agrees = rw t.are at q.agree
 
         decides : keeps u (f (row_name img r)) w.value ≡ b
@@ -295,7 +225,7 @@ module _ {img : List ℕ} {u : UnderN.Under} {f : Text → Option ℕ} {old : Li
             ap (kept_rows u f) t.are
             ∙ ap (λ (y : Bool). cond y ((row_name img r, w.value) ∷ kept_rows u f t.others) (kept_rows u f t.others)) (decides ∙ e)
 
-        on : (y : Bool) → b ≡ y → Progress img u f old at all r.next (left - 1) p seen out k2
+        on : (y : Bool) → b ≡ y → Progress img u f old at all r.next (left - 1) seen out k2
         unfolding rows_bytes
         on true e =
             let y = w₂.stayed e in
@@ -319,11 +249,11 @@ module _ {img : List ℕ} {u : UnderN.Under} {f : Text → Option ℕ} {old : Li
               counts = omega (arith, q.counts, ap length (rows_are false e));
             })
 
-      low-on : (x : Bool) → b ≡ x → (k2.at ≤ edge) × (length out ≡ length old)
+      low-on : (x : Bool) → b ≡ x → (k2.end ≤ edge) × (length out ≡ length old)
       low-on true e = let y = w₂.stayed e in (omega (arith, y.0.to), put-length y.0 ∙ g.same)
       low-on false e = let y = w₂.dropped e in rw (y.0, y.1) (g.low, g.same)
 
-      pub keeping-on : Keeping img u f old at first total r.next (left - 1) p seen out k2
+      pub keeping-on : Keeping img u f old at first total r.next (left - 1) seen out k2
       keeping-on = record {
         rises = s.rises;
         low = (low-on b refl).0;
@@ -332,21 +262,34 @@ module _ {img : List ℕ} {u : UnderN.Under} {f : Text → Option ℕ} {old : Li
         kept = λ l z. let q = g.kept l z in on l q (row-taken w h q.standing) b refl;
       }
 
--- ---- a row
+-- ---- the list, all of whose rows were looked at
 
-module _ {bytes old : List ℕ} {stays : Bool} {k : Kept} where
-  pub row_stays : stays ≡ true → {q : ℕ} {new : List ℕ} → Put old k.at bytes q new → PutsRow bytes stays k old (record { at = q; count = k.count + 1 }) new
-  row_stays e p = record { stayed = λ t. (p, refl); dropped = λ t. absurd (let z : ◌≡◌ {A = ℕ} 0 1 = cc in omega arith) }
+module _ (list : NameList) {f : Text → Option ℕ} {old : List ℕ} {at here left : ℕ} {r : Rows} {names : Merge} {buf : List ℕ} {k : Written}
+    (g : Keeping list.img.now list.what f old at r.first r.count here left names buf k) (l : ListRows list r) where
+  pub keeping_all : left ≤ 0 → PutsKept list f old at k buf
+  unfolding rows_bytes
+  keeping_all h =
+      let q = g.kept (list_in list).rows l in
+      let z = rows_end h q.standing in
+      record {
+        put = q.put k.end buf (rw z (put-none (omega (arith, g.short, g.same)) g.low));
+        count = omega (arith, q.counts, ap (λ (l : List (Text × UnderName list.what)). length (kept_rows list.what f l)) z);
+      }
 
-  pub row_goes : stays ≡ false → PutsRow bytes stays k old k old
-  row_goes e = record { stayed = λ t. absurd (let z : ◌≡◌ {A = ℕ} 0 1 = cc in omega arith); dropped = λ t. (refl, refl) }
+  -- there is no more than the list's count
+  pub keeping-few : k.count < edge
+  keeping-few =
+      let q = g.kept (list_in list).rows l in
+      let there = list-is list.img.now list.what list.place list.listed in
+      omega (arith, q.counts, keep-few (λ k v. keeps list.what (f k) v) (list_in list).rows, ((by_name-one list.what).forth _ _ _ there.1).1.0)
 
 -- ---- the list
 
-pub kept-list : {img : List ℕ} {u : UnderN.Under} {p : Part} (f : Text → Option ℕ) {old mid new none₁ none₂ : List ℕ} {at zero₁ q : ℕ} {c k : Kept}
-    → PutsKept img u p f none₁ zero₁ c none₂
-    → Put old at (number_bytes c.count) q mid → PutsKept img u p f mid q k new → Put old at ((by_name u).write (kept_map u f (list_at img u p))) k.at new
-kept-list {img} {u} {p} f a b c =
-    let t = list_at img u p in
+pub kept-list : (list : NameList) (f : Text → Option ℕ) {old mid new none₁ none₂ : List ℕ} {at zero₁ q : ℕ} {c k : Written}
+    → PutsKept list f none₁ zero₁ c none₂ → Put old at (number_bytes c.count) q mid → PutsKept list f mid q k new
+    → Put old at (kept_bytes list f) k.end new
+kept-list list f a b c =
+    let u = list.what in
+    let t = list_in list in
     let e : (kept_map u f t).rows ≡ kept_rows u f t.rows = keep-are by_bytes (λ k v. keeps u (f k) v) t in
     rw (e, chain-rows by_bytes name (under u) None (kept_rows u f t.rows), ← a.count) (put-append b c.put)

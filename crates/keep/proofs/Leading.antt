@@ -1,9 +1,8 @@
 -- The lists of a stack, as sources from the top, give the names that lead somewhere.
 -- Assumes nothing.
-use Rattle.wire.specs.declared.part.Part.{Part}
 use Rattle.std.specs.Prelude.{None, Option, Some}
 use mathlib.Core.Path.{◌≡◌, refl, sym, ap, ◌∙◌}
-use mathlib.Core.List.{List, [], ◌∷◌, ◌++◌, append-nil}
+use mathlib.Core.List.{List, [], ◌∷◌, ◌++◌}
 use Prim.Native.Nat.{ℕ, ◌+◌, ◌-◌, ◌*◌, ◌≤◌, ◌<◌}
 use native.Mathlib.Omega.{arith}
 use lib.ListN.{drop}
@@ -29,16 +28,20 @@ use Rattle.stack.specs.Stacks.{shown_under}
 use Rattle.stack.specs.InStack.{RecordIn, shown_in}
 use Rattle.stack.specs.declared.stack.Stack.{Stack}
 use Rattle.lookup.specs.Children.{BaseEntries}
+use Rattle.lookup.specs.declared.list.NameList.{NameList}
+use Rattle.lookup.proofs.Searching.{list-is}
+use Rattle.lookup.proofs.Children.{entries-there}
 use Rattle.stack.proofs.Walks.{shown-more}
 use Rattle.merge.specs.Pile.{rows_of, merged, itself}
-use Rattle.merge.specs.Sources.{Given, decided, list_rows}
-use Rattle.merge.specs.Merges.{listed, sources_of, in_order, rows_in, lists_if, Pushes}
-use Rattle.merge.specs.declared.sources.Sources.{Sources}
+use Rattle.merge.specs.Sources.{Given, decided, sources_of, list_rows, ListOf}
+use Rattle.merge.specs.Merges.{lists_in, in_order, rows_in, Pushes}
+use Rattle.merge.specs.declared.source.Source.{Source}
+use Rattle.merge.specs.declared.sources.Lists.{Lists}
 use Rattle.merge.specs.declared.merge.AtMostTwo.{AtMostTwo}
 use Rattle.merge.proofs.Merging.{many-two, sources-more}
 use Rattle.merge.proofs.Piles.{pile-merged}
 use Rattle.merge.proofs.Lists.{Deciding, pile_rows, pile-ascends, rows_append, source_of, list-are}
-use Rattle.keep.specs.Below.{inode_given, Leads}
+use Rattle.keep.specs.Below.{inode_given, LeadsBy}
 
 -- ---- what sources say of a name
 
@@ -63,7 +66,8 @@ lead-merged k (c ∷ cs) = rw (get-merge, lead-merged k cs) (go (get by_bytes k 
     go (Some o) = refl
 
 -- removed names, and added entries
-get-start : (k : Text) (u : UnderN.Under) (q : ℕ) (m : Map by_bytes (UnderName u)) → get by_bytes k m ≡ map_if (λ x. x.1) (get by_bytes k (starts (under u) q m))
+get-start : (k : Text) (u : UnderN.Under) (q : ℕ) (m : Map by_bytes (UnderName u))
+    → get by_bytes k m ≡ map_if (λ x. x.1) (get by_bytes k (starts (under u) q m))
 get-start k u q m = ap (get by_bytes k) (sym (starts-forgotten (under u) q m)) ∙ get-map by_bytes (λ x. x.1) k (starts (under u) q m)
 
 removed-lead : (k : Text) (q : ℕ) (m : Names) (x : Option ℕ) → lead_or k (source_of U.Nothing q m ∷ []) x ≡ meet (λ u y. None) (get by_bytes k m) x
@@ -83,40 +87,41 @@ added-lead k q m x = rw (get-map, get-start k U.Inode q m) (go (get by_bytes k (
 -- ---- the walk from the top
 
 -- The sources of the records from i on are there; what they leave open is for the lowest i records and the node.
-pub record Leading (s : Stack) (all : Sources) (i : ℕ) : Type 0 where
+pub record Leading (s : Stack) (all : Lists) (i : ℕ) : Type 0 where
   pub low : i ≤ s.places.count
   pub few : all.count + 2 * i ≤ 2 * s.places.count
   pub maps : List Deciding
-  pub are : sources_of s.img.now (listed all) ≡ pile_rows maps
+  pub are : sources_of s.img.now (lists_in all) ≡ pile_rows maps
   pub same : (k : Text) → shown_in (child k) s ≡ lead_or k maps (shown_under (child k) s.img.now s.places i)
 
-leads-of : {s : Stack} {all : Sources} (maps : List Deciding) → sources_of s.img.now (listed all) ≡ pile_rows maps
-    → ((k : Text) → shown_in (child k) s ≡ lead_or k maps None) → Leads s all
+leads-of : {s : Stack} {all : Lists} (maps : List Deciding) → sources_of s.img.now (lists_in all) ≡ pile_rows maps
+    → ((k : Text) → shown_in (child k) s ≡ lead_or k maps None) → LeadsBy s all
 unfolding get
 leads-of maps e f = record {
-  ready = record { ascend = rw e (pile-ascends maps) };
+  rise = rw e (pile-ascends maps);
   leads = λ k. rw (e, pile-merged by_bytes (itself by_bytes) maps) (sym (f k ∙ lead-merged k maps));
 }
 
-module _ {s : Stack} {all : Sources} where
+module _ {s : Stack} {all : Lists} where
   pub leading-start : all.count ≡ 0 → Leading s all s.places.count
   unfolding rows_of
   leading-start n = record { low = omega arith; few = omega (arith, n); maps = []; are = rw n; same = λ k. refl }
 
   module _ {i : ℕ} (l : 0 < i) (g : Leading s all i) {e : EntryDelta} (r : RecordIn s (i - 1) e) where
-    top : (k : Text) → shown_in (child k) s ≡ lead_or k g.maps (step_child k (entry_meant s.img.now e) (shown_under (child k) s.img.now s.places (i - 1)))
+    top : (k : Text)
+        → shown_in (child k) s ≡ lead_or k g.maps (step_child k (entry_meant s.img.now e) (shown_under (child k) s.img.now s.places (i - 1)))
     top k =
         let z : i ≡ i - 1 + 1 = omega arith in
         g.same k ∙ ap (lead_or k g.maps)
         (ap (λ (n : ℕ). shown_under (child k) s.img.now s.places n) z ∙ shown-more s.stacked (child k) (i - 1) (omega (arith, g.low)) r)
 
     -- "Tombstone: none." "Other kind: none."
-    pub leading-end : ((k : Text) (x : Option ℕ) → step_child k (entry_meant s.img.now e) x ≡ None) → Leads s all
+    pub leading-end : ((k : Text) (x : Option ℕ) → step_child k (entry_meant s.img.now e) x ≡ None) → LeadsBy s all
     leading-end d = leads-of g.maps g.are (λ k. top k ∙ ap (lead_or k g.maps) (d k _))
 
     -- "Directory delta: removed name, none; else added name, its inode; else go on below."
     pub leading-more : {n : NodeDelta} {d : DirectoryDelta} → e ≡ E.Node n → n ≡ D.Directory d → (f : AtMostTwo)
-        → rows_in s.img.now f ≡ list_rows s.img.now U.Nothing d.removed.start ∷ (list_rows s.img.now U.Inode d.added.start ∷ []) → {out : Sources}
+        → rows_in s.img.now f ≡ list_rows s.img.now U.Nothing d.removed.start ∷ (list_rows s.img.now U.Inode d.added.start ∷ []) → {out : Lists}
         → Pushes all (in_order f) out
         → Leading s out (i - 1)
     unfolding rows_of
@@ -134,25 +139,26 @@ module _ {s : Stack} {all : Sources} where
           low = omega (arith, g.low);
           few = omega (arith, g.few, p.more, many-two f);
           maps = g.maps ++ (xs ++ ys);
-          are =
-              sources-more img p
-              ∙ rw (g.are, q, removed-are, added-are, rows_append);
+          are = sources-more img p ∙ rw (g.are, q, removed-are, added-are, rows_append);
           same = λ k. top k ∙ rw (z, lead-append k g.maps (xs ++ ys), lead-append k xs ys, added-lead, removed-lead);
         }
 
   -- "Last, a base directory's entries."
-  pub leading-all : {i : ℕ} → i ≤ 0 → Leading s all i → (o : Option Part) → BaseEntries s o → (f : AtMostTwo)
-      → rows_in s.img.now f ≡ lists_if s.img.now U.Inode o → {out : Sources}
-      → Pushes all (in_order f) out → Leads s out
-  unfolding rows_of
-  leading-all {i} h g None b f q p =
-      let z : i ≡ 0 = omega arith in
-      leads-of g.maps (sources-more s.img.now p ∙ rw (g.are, q, append-nil)) (λ k. g.same k ∙ ap (lead_or k g.maps) (rw z (b k)))
-  leading-all {i} h g (Some r) b f q p =
-      let img = s.img.now in
-      let z : i ≡ 0 = omega arith in
-      let m = list_at img U.Inode r in
-      let xs = source_of U.Inode r.start m ∷ [] in
-      let l = (b []).0 in
-      leads-of (g.maps ++ xs) (sources-more img p ∙ rw (g.are, q, list-are img U.Inode r.start m (drop l.0 img) l.1.is, rows_append))
-      (λ k. g.same k ∙ ap (lead_or k g.maps) (rw z (b k).1 ∙ sym (added-lead k r.start m None)) ∙ sym (lead-append k g.maps xs None))
+  module _ {i : ℕ} (h : i ≤ 0) (g : Leading s all i) {o : Option NameList} (b : BaseEntries s o) where
+    pub leading-none : o ≡ None → LeadsBy s all
+    leading-none e =
+        let z : i ≡ 0 = omega arith in
+        leads-of g.maps g.are (λ k. g.same k ∙ ap (lead_or k g.maps) (rw z ((rw e at b) k)))
+
+    pub leading-all : (r : NameList) → o ≡ Some r → {f : Source} → ListOf s.img.now U.Inode r.place.start f → {out : Lists} → Pushes all (f ∷ []) out
+        → LeadsBy s out
+    unfolding rows_of
+    leading-all r e q p =
+        let img = s.img.now in
+        let z : i ≡ 0 = omega arith in
+        let at-base : BaseEntries s (Some r) = rw e at b in
+        let l = list-is img U.Inode r.place (entries-there s r (at-base []).0) in
+        let m = list_at img U.Inode r.place in
+        let xs = source_of U.Inode r.place.start m ∷ [] in
+        leads-of (g.maps ++ xs) (sources-more img p ∙ rw (g.are, q.are, list-are img U.Inode r.place.start m l.0 l.1, rows_append))
+        (λ k. g.same k ∙ ap (lead_or k g.maps) (rw z (at-base k).1 ∙ sym (added-lead k r.place.start m None)) ∙ sym (lead-append k g.maps xs None))

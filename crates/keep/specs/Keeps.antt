@@ -11,18 +11,18 @@ use Rattle.image.specs.FieldLayout.{name}
 use Rattle.image.specs.Under.{UnderName, under}
 use Rattle.image.specs.declared.name.Under.{Under}
 use Rattle.image.specs.declared.name.Under.TheVariants as U
-use Rattle.nodes.specs.Listed.{list_at}
-use Rattle.wire.specs.declared.part.Part.{Part}
+use Rattle.wire.specs.declared.put.Written.{Written}
 use Rattle.rules.specs.Reads.{is_there}
 use Rattle.rules.specs.Changes.{map_if}
 use Rattle.rules.specs.Normalise.{leads_to}
-use Rattle.merge.specs.Merges.{listed, Ready, gives_from}
-use Rattle.merge.specs.declared.source.Source.{Source}
-use Rattle.merge.specs.declared.merge.Row.{Row}
+use Rattle.merge.specs.Sources.{Given}
+use Rattle.merge.specs.Merges.{gives_from}
 use Rattle.merge.specs.declared.merge.Merge.{Merge}
 use Rattle.change.specs.Cuts.{rows_bytes}
 use Rattle.keep.specs.Below.{inode_given}
-use Rattle.keep.specs.declared.keep.Kept.{Kept}
+use Rattle.nodes.specs.Listed.{by_name}
+use Rattle.lookup.specs.Search.{list_in}
+use Rattle.lookup.specs.declared.list.NameList.{NameList}
 
 -- whether a row stays, by what its name leads to below
 abbrev pub keeps : (u : Under) → Option ℕ → UnderName u → Bool
@@ -44,35 +44,38 @@ kept_rows u below l = keep_rows (λ k v. keeps u (below k) v) l
 
 -- ---- names in step
 
--- what a name leads to, by the names that are left: the first, and those that the sources give
-abbrev pub leads_from : List ℕ → Option Row → List Source → Text → Option ℕ
-leads_from img o l k = map_if inode_given (lookup by_bytes k (gives_from img o l))
+-- the names that are left: the first, and those that the sources past it give; and what one of them leads to
+abbrev pub names_of : Merge → List (Text × (ℕ × Given))
+names_of m = gives_from m.first m.all
 
-pub record Rises (img : List ℕ) (o : Option Row) (l : List Source) : Type 0 where
-  pub ready : Ready img l
-  pub rising : Rising by_bytes (gives_from img o l)
+abbrev pub leads_in : Merge → Text → Option ℕ
+leads_in m k = map_if inode_given (lookup by_bytes k (names_of m))
 
--- the same of a merge
-abbrev pub leads_in : List ℕ → Merge → Text → Option ℕ
-leads_in img m = leads_from img m.first (listed m.all)
-
-abbrev pub MergeRises : List ℕ → Merge → Type 0
-MergeRises img m = Rises img m.first (listed m.all)
+abbrev pub Rises : Merge → Type 0
+Rises m = Rising by_bytes (names_of m)
 
 -- what a name leads to; the names that are less are passed
-pub record Sought (img : List ℕ) (o : Option Row) (l : List Source) (k : Text) (x : Option ℕ) (r : Option Row) (rest : List Source) : Type 0 where
-  pub leads : x ≡ leads_from img o l k
-  pub rises : Rises img r rest
-  pub same : (j : Text) → (by_bytes.cmp j k ≡ Less → ⊥) → leads_from img r rest j ≡ leads_from img o l j
+pub record Sought (m : Merge) (k : Text) (x : Option ℕ) (r : Merge) : Type 0 where
+  pub leads : x ≡ leads_in m k
+  pub rises : Rises r
+  pub same : (j : Text) → (by_bytes.cmp j k ≡ Less → ⊥) → leads_in r j ≡ leads_in m j
 
 pub record Keeps (img : List ℕ) (u : Under) (below : Option ℕ) (p : ℕ) (r : Bool) : Type 0 where
   pub is : (v : UnderName u) (s : List ℕ) → (under u).read (drop p img) ≡ got v s → r ≡ keeps u below v
 
+-- the list of the rows that stay
+abbrev pub kept_bytes : NameList → (Text → Option ℕ) → List ℕ
+kept_bytes l below = (by_name l.what).write (kept_map l.what below (list_in l))
+
 -- a row, if it stays
-pub record PutsRow (bytes : List ℕ) (stays : Bool) (kept : Kept) (old : List ℕ) (r : Kept) (new : List ℕ) : Type 0 where
-  pub stayed : stays ≡ true → Put old kept.at bytes r.at new × (r.count ≡ kept.count + 1)
+pub record PutsRow (bytes : List ℕ) (stays : Bool) (kept : Written) (old : List ℕ) (r : Written) (new : List ℕ) : Type 0 where
+  pub stayed : stays ≡ true → Put old kept.end bytes r.end new × (r.count ≡ kept.count + 1)
   pub dropped : stays ≡ false → (r ≡ kept) × (new ≡ old)
 
-pub record PutsKept (img : List ℕ) (u : Under) (p : Part) (below : Text → Option ℕ) (old : List ℕ) (at : ℕ) (r : Kept) (new : List ℕ) : Type 0 where
-  pub put : Put old at (rows_bytes name (under u) (kept_rows u below (list_at img u p).rows)) r.at new
-  pub count : r.count ≡ length (kept_rows u below (list_at img u p).rows)
+-- the rows of a list that stay
+abbrev pub rows_kept : (l : NameList) → (Text → Option ℕ) → List (Text × UnderName l.what)
+rows_kept l below = kept_rows l.what below (list_in l).rows
+
+pub record PutsKept (l : NameList) (below : Text → Option ℕ) (old : List ℕ) (at : ℕ) (r : Written) (new : List ℕ) : Type 0 where
+  pub put : Put old at (rows_bytes name (under l.what) (rows_kept l below)) r.end new
+  pub count : r.count ≡ length (rows_kept l below)

@@ -3,17 +3,18 @@ ghost use Rattle.std.specs.Prelude.{◌≡◌, [], ◌∷◌};
 ghost use Rattle.image.specs.declared.name.Under.TheVariants as U;
 ghost use Rattle.merge.specs.Sources.{list_rows};
 ghost use Rattle.merge.specs.Merges.{rows_in};
-ghost use Rattle.keep.specs.Below.{Leads};
+ghost use Rattle.keep.specs.Below.{LeadsBy, Leads};
 
 use deltas::delta::{DirectoryDelta, EntryDelta, NodeDelta};
 use image::name::Under;
 use lookup::child::base_entries;
-use merge::merge::{AtMostTwo, list_if, no_sources, push_lists};
-use merge::source::source_at;
-use merge::sources::Sources;
+use merge::merge::{AtMostTwo, no_lists, push_lists};
+use merge::read::source_at;
+use merge::sources::{Lists, Sources};
 use stack::stack::Stack;
 
-// A child lookup asks what a delta removes before what it adds.
+// A child lookup asks what a delta removes before what it adds. So this is no `change_lists` (gather), which has the two the other way round:
+// there what is added is over what is removed, and only here is it asked in this order.
 fn directory_lists(img: &[u8], directory: DirectoryDelta) -> AtMostTwo
     ensures { rows_in img.now result ≡ list_rows img.now U.Nothing directory.removed.start ∷ (list_rows img.now U.Inode directory.added.start ∷ []) }
 {
@@ -22,21 +23,34 @@ fn directory_lists(img: &[u8], directory: DirectoryDelta) -> AtMostTwo
     AtMostTwo::Two { over, under }
 }
 
-// The names that lead somewhere: down to a tombstone, another kind or the base.
-// Not `gather_sources`: a child lookup ends at a delta of another kind, and a removed name is over an added one.
-pub fn names_in(stack: Stack) -> Sources
-    ensures { Leads stack.entry result }
+// The lists of the names that lead somewhere: down to a tombstone, another kind or the base.
+// Not `gather_lists`: a child lookup ends at a delta of another kind, and a removed name is over an added one.
+fn lists_down(stack: Stack) -> Lists
+    ensures { LeadsBy stack.entry result }
 {
-    let mut all = no_sources();
+    let mut all = no_lists();
     for i in (0..stack.places.count).rev() {
         let EntryDelta::Node(NodeDelta::Directory(directory)) = stack.record(i) else {
             return all;
         };
         push_lists(&mut all, directory_lists(stack.img, directory));
     }
-    push_lists(
-        &mut all,
-        list_if(stack.img, base_entries(stack), Under::Inode),
-    );
+    let Some(entries) = base_entries(stack) else {
+        return all;
+    };
+    let lowest = source_at(stack.img, entries.place.start, Under::Inode);
+    push_lists(&mut all, AtMostTwo::One(lowest));
     all
+}
+
+// The same lists as sources: the names of each rise.
+pub fn names_in(stack: Stack) -> Sources
+    ensures { Leads stack.entry result }
+{
+    let Lists { rows, count } = lists_down(stack);
+    Sources {
+        img: stack.img,
+        rows,
+        count,
+    }
 }

@@ -21,7 +21,7 @@ use Rattle.deltas.specs.Deltas.{entry_meant, ChangeListed, EntryListed}
 use Rattle.attrs.specs.Attrs.{TargetIn, LinkIn}
 use Rattle.layers.specs.Attrs.{EntryTargetIn, BaseLinkIn, attr_if}
 use Rattle.stack.specs.Stacks.{BaseIs, node_meant_if}
-use Rattle.stack.specs.InStack.{RecordIn, BaseIn, shown_lowest, shown_in}
+use Rattle.stack.specs.InStack.{RecordIn, BaseIn, shown_lowest}
 use Rattle.stack.specs.declared.stack.Stack.{Stack}
 use Rattle.stack.proofs.Walks.{shown-base, shown-more}
 
@@ -76,6 +76,3 @@ module _ {ino : ℕ} {s : Stack} where
       let m = s.img.now in
       let below = ap (λ (z : Option R.FileAttr). step_attr usual ino (entry_meant m e) z) w.same in
       record { low = omega (arith, l); same = f m (entry_in m e g.end g.reads.lists) ∙ below ∙ sym (shown-more s.stacked (attributes usual ino) i l g) }
-
-  pub rise-end : {i : ℕ} {a : Option FileAttr} → Risen ino s i a → s.places.count ≤ i → attr_if a ≡ shown_in (attributes usual ino) s
-  rise-end {i} w l = let z : i ≡ s.places.count = omega (arith, w.low) in w.same ∙ ap (λ (n : ℕ). shown_lowest (attributes usual ino) s n) z

@@ -1,21 +1,20 @@
 -- The calls that read one inode.
 -- Assumes nothing.
 use Rattle.std.specs.Prelude.{Result, Ok, Err, None, Option, Some, is_some}
-use Rattle.std.specs.Result.{result_unwrap_or}
 use mathlib.Core.Path.{◌≡◌, refl, sym, ◌∙◌}
 use mathlib.Core.Bool.{Bool}
-use mathlib.Core.List.{List, []}
+use mathlib.Core.List.{List}
 use Prim.Native.Nat.{ℕ}
 use Rattle.wire.specs.declared.part.Part.{Part}
 use Rattle.image.specs.Meaning.{Text}
 use Rattle.survey.specs.declared.refusal.Refusal.{Refusal}
-use Rattle.nodes.specs.Options.{text_at, text_of}
+use Rattle.nodes.specs.Options.{text_of}
 use Rattle.wire.proofs.Readers.{handed}
 use Rattle.rules.specs.Initial.{usual}
 use Rattle.rules.specs.Answers.{Answer}
 use Rattle.rules.specs.Asks.{Ask, Reply, ask}
 use Rattle.rules.specs.Reads.{is_there}
-use Rattle.rules.specs.ReadCalls.{over_image, map_answer, text_of as said}
+use Rattle.rules.specs.ReadCalls.{over_image, map_answer}
 use Rattle.image.specs.declared.kind.FileType.{FileType}
 use Rattle.stack.specs.Stacks.{type_of}
 use Rattle.stack.specs.declared.stack.Stack.{Stack}
@@ -49,15 +48,5 @@ module _ (img : List ℕ) {o : Result (Option Part) Refusal} {a : Answer (Option
 
   pub there-found : {x : Option Part} {b : Bool} → o ≡ Ok x → b ≡ is_some x → answered (λ yes. yes) (Ok b) ≡ map_answer is_there a
   there-found {x} d e = rw (e, ← h, d, text-there img x)
-
--- the text, empty where there is none
-abbrev bytes_if : List ℕ → Option Part → Text
-bytes_if img None = []
-bytes_if img (Some t) = text_at img t
-
-pub answered-text : (img : List ℕ) (o : Result (Option Part) Refusal) → said (answered (text_of img) o) ≡ bytes_if img (result_unwrap_or o None)
-answered-text img (Err f) = refl
-answered-text img (Ok None) = refl
-answered-text img (Ok (Some t)) = refl
 
 pub ruleset calls = (there-stop, there-found, handed)

@@ -41,10 +41,7 @@ fn step_attr(entry: EntryDelta, below: Option<FileAttr>, ino: u64) -> Option<Fil
 fn base_attr(base: Option<Node>, ino: u64) -> Option<FileAttr>
     ensures { (img : List ℕ) → BaseLinkIn img base → attr_if result ≡ base_attr ino (node_meant_if img base) }
 {
-    match base {
-        Some(node) => Some(node_attr(node, ino)),
-        None => None,
-    }
+    base.map(|node| node_attr(node, ino))
 }
 
 // From the bottom: the base's, and what each record makes of them.

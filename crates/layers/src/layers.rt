@@ -16,7 +16,7 @@ use stack::open::open_image;
 use stack::question::{Question, decided};
 use std::ops::ControlFlow;
 use survey::refusal::Refusal;
-use wire::part::Part;
+use wire::part::{Part, part_if};
 
 // Whether the inode exists.
 pub fn exists(img: &[u8], ino: u64) -> Result<bool, Refusal>
@@ -45,15 +45,12 @@ pub fn parent_dir_inode(img: &[u8], ino: u64) -> Result<Option<u64>, Refusal>
     Ok(decided(stack, &Parent))
 }
 
-// The text of a link: that very part of the image, empty if there is none.
+// The text of a link: that very part of the image, empty if there is none. Beside `has_link`: the project fixes both (docs/DECISIONS.md).
 pub fn read_link(img: &[u8], ino: u64) -> &[u8]
     ensures { result.now ≡ text_of (read_link usual img.now ino) }
 {
     let found = link_of(img, ino).unwrap_or(None);
-    match found {
-        Some(text) => text.of(img),
-        None => &img[..0],
-    }
+    part_if(img, found)
 }
 
 // Whether there is a link's text.

@@ -30,8 +30,11 @@ use Rattle.survey.specs.Verdict.{number_of, numbered}
 use Rattle.survey.specs.declared.refusal.Refusal.{Refusal}
 use Rattle.change.proofs.Sections.{store_bytes}
 use Rattle.lines.specs.Lines.{snapshot_of}
-use Rattle.lines.specs.Rows.{FirstRows, OpensTo, OpensListing}
-use Rattle.lines.specs.declared.rows.Rows.{Rows}
+use Rattle.lines.specs.Rows.{OpensTo, OpensListing}
+use Rattle.image.specs.declared.rows.Rows.{Rows}
+use Rattle.wire.specs.Lists.{last_count}
+use Rattle.image.specs.Rows.{RowsAt}
+use Rattle.lines.proofs.Rowed.{rows-first}
 use Rattle.wire.proofs.Decoding.{encode-decode}
 use Rattle.image.proofs.OneForm.{store-one}
 
@@ -103,7 +106,7 @@ module _ {img old new : List ℕ} {made : Result ℕ Refusal} (h : Changes (snap
       go (refused m) x = ap numbered d ∙ let z : number_of e ≡ m = cc in ap Err z
       go (answer s) x = absurd (let z : ◌≡◌ {A = ℕ} 0 1 = cc in omega arith)
 
-  pub opened-lines : {n : ℕ} {rows : Rows} → made ≡ Ok n → FirstRows new rows → r ≡ Ok rows → OpensListing img old r new
+  pub opened-lines : {n : ℕ} {rows : Rows} → made ≡ Ok n → RowsAt new last_count 0 rows → r ≡ Ok rows → OpensListing img old r new
   opened-lines {n} {rows} a f e =
       record { opens = go (snapshot_of (length old) img) refl; leaves = h.leaves }
     where
@@ -113,5 +116,9 @@ module _ {img old new : List ℕ} {made : Result ℕ Refusal} (h : Changes (snap
           absurd (let y : ◌≡◌ {A = ℕ} 0 1 = cc in omega arith)
       go (answer s) d =
           let w : new ≡ write_image s ++ drop (length (write_image s)) old =
-          h.leaves ∙ ap (λ (o : Answer (List ℕ)). written o old) (snapshot-bytes (length old) img ∙ ap (map_answer write_image) d) in
-          (rows, e, f s.base (length (base.write s.base)) (fits-base (snapshot-is (length old) img d)) (rw w (base-starts s (drop (length (write_image s)) old))))
+          h.leaves ∙ ap (λ (o : Answer (List ℕ)). written o old) (snapshot-bytes (length old) img ∙ ap (map_answer write_image) d) in (
+            rows,
+            e,
+            rows-first f s.base (length (base.write s.base)) (fits-base (snapshot-is (length old) img d))
+                (rw w (base-starts s (drop (length (write_image s)) old))),
+          )

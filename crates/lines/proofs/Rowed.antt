@@ -32,8 +32,10 @@ use Rattle.change.proofs.Sections.{span-front, span-back, span-reads, value-is}
 use Rattle.lines.specs.Lines.{line, line_if, line_of}
 use Rattle.change.specs.Cuts.{rows_bytes}
 use Rattle.change.proofs.Cutting.{chain-rows}
-use Rattle.lines.specs.Rows.{Listed, FirstRows, NextLine, row_meant, ReadsRow}
-use Rattle.lines.specs.declared.rows.Rows.{Rows}
+use Rattle.lines.specs.Rows.{Listed, NextLine, row_meant, ReadsRow}
+use Rattle.image.specs.declared.rows.Rows.{Rows}
+use Rattle.image.specs.Rows.{RowsAt}
+use Rattle.image.proofs.Listed.{rows-read}
 use Rattle.lines.specs.declared.rows.Line.{Line}
 
 -- ---- a base is its count and its rows
@@ -41,13 +43,15 @@ use Rattle.lines.specs.declared.rows.Line.{Line}
 pub base-bytes : (b : Base) → base.write b ≡ number_bytes (length b.rows) ++ rows_bytes inode node b.rows
 base-bytes b = ap (λ (t : List ℕ). number_bytes (length b.rows) ++ t) (chain-rows by_number inode node None b.rows)
 
-pub rows-first : {img : List ℕ} {o : Result (ℕ × ℕ) Fault} {x : ℕ × ℕ} → Reads img (number_read last_count) 0 o → x ≡ result_unwrap_or o (0, 0)
-    → FirstRows img (record { at = x.1; left = x.0 })
-rows-first {img} {o} {x} a z = λ b end f w.
+-- of an image that begins with a base, the rows of the base
+pub rows-first : {img : List ℕ} {rows : Rows} → RowsAt img last_count 0 rows → (b : Base) (end : ℕ) → base.Fits b → Spans img 0 (base.write b) end
+    → Listed img rows b.rows
+rows-first {img} {rows} a b end f w =
     let v = rw (base-bytes b) at w in
+    let o = rows-read a in
     let g = value-is (0, 0) (span-reads (number_to last_count refl) (span-front (number_bytes (length b.rows)) (rows_bytes inode node b.rows) v)
-    (omega (arith, f.count)) a) z in
-    let at : x.1 ≡ 0 + length (number_bytes (length b.rows)) = ap (λ (x : ℕ × ℕ). x.1) g in
+    (omega (arith, f.count)) o.1) o.2 in
+    let at : rows.first ≡ 0 + length (number_bytes (length b.rows)) = ap (λ (x : ℕ × ℕ). x.1) g in
     record {
       end = end;
       spans = rw at (span-back (number_bytes (length b.rows)) (rows_bytes inode node b.rows) v);
@@ -81,11 +85,11 @@ module _ {img : List ℕ} {at : ℕ} {o : Result (ℕ × ℕ) Fault} (h : Reads 
 
 -- where the rows go on
 abbrev after : Rows → ℕ × M.Node → ℕ
-after rows e = rows.at + length ((inode then node).write e)
+after rows e = rows.first + length ((inode then node).write e)
 
-module _ {img : List ℕ} {rows : Rows} {o : Result ((ℕ × Node) × ℕ) Fault} (k : ReadsRow img rows.at o) where
+module _ {img : List ℕ} {rows : Rows} {o : Result ((ℕ × Node) × ℕ) Fault} (k : ReadsRow img rows.first o) where
   module _ {e : ℕ × M.Node} {l : List (ℕ × M.Node)} (s : Listed img rows (e ∷ l)) where
-    row-spans : Spans img rows.at ((inode then node).write e ++ rows_bytes inode node l) s.end
+    row-spans : Spans img rows.first ((inode then node).write e ++ rows_bytes inode node l) s.end
     unfolding rows_bytes
     row-spans = s.spans
 
@@ -96,7 +100,7 @@ module _ {img : List ℕ} {rows : Rows} {o : Result ((ℕ × Node) × ℕ) Fault
     rest-spans = span-back ((inode then node).write e) (rows_bytes inode node l) row-spans
 
   -- nothing could be read
-  pub no-line : {f : Fault} {old : List ℕ} {r : Line} → o ≡ Err f → r.rest.left ≡ rows.left - 1 → NextLine img rows old r old
+  pub no-line : {f : Fault} {old : List ℕ} {r : Line} → o ≡ Err f → r.rest.count ≡ rows.count - 1 → NextLine img rows old r old
   no-line d q = record {
     left = q;
     line = λ e l s. never d s;
@@ -109,14 +113,14 @@ module _ {img : List ℕ} {rows : Rows} {o : Result ((ℕ × Node) × ℕ) Fault
   -- the inode, its node and its line
   pub next-line : {old new : List ℕ} {i : ℕ} {n : Node} {next : ℕ} {r : Line} (a : FileAttr) → o ≡ Ok ((i, n), next)
       → ((m : List ℕ) → LinkIn m n.kind → Some (attr_meant a) ≡ base_attr i (Some (node_meant m n)))
-      → Put old 0 (line (attr_meant a)) r.end new → r.rest.at ≡ next → r.rest.left ≡ rows.left - 1 → NextLine img rows old r new
+      → Put old 0 (line (attr_meant a)) r.end new → r.rest.first ≡ next → r.rest.count ≡ rows.count - 1 → NextLine img rows old r new
   next-line {i = i} {n} {next} a d h p w q = record {
     left = q;
     line = λ e l s. rw (← (ap line_if (h img (rw d at k).link) ∙ ap line_of (taken s).0)) p;
     rest = λ e l s. record {
       end = s.end;
       spans = rw (w ∙ (taken s).1) (rest-spans s);
-      count = let z : rows.left ≡ suc (length l) = s.count in omega (arith, q, z);
+      count = let z : rows.count ≡ suc (length l) = s.count in omega (arith, q, z);
       fits = s.fits.1;
     };
   }

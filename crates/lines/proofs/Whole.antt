@@ -18,7 +18,7 @@ use Rattle.rules.specs.FileAttrs.{FileAttr, base_attr}
 use Rattle.lines.specs.Digits.{glyph, digits}
 use Rattle.lines.specs.Lines.{heading, line, line_if, line_of, lines_of, refusal, snapshot_of, listing, listing_bytes}
 use Rattle.lines.specs.Rows.{Listed, HasRows, OpensTo, OpensListing, NextLine, longest, Pieces, done, piece}
-use Rattle.lines.specs.declared.rows.Rows.{Rows}
+use Rattle.image.specs.declared.rows.Rows.{Rows}
 use Rattle.lines.specs.declared.rows.Line.{Line}
 use Rattle.survey.specs.Verdict.{number_of}
 use Rattle.survey.specs.declared.refusal.Refusal.{Refusal}
@@ -30,7 +30,8 @@ unfolding digits
 digits-few base zero least n = omega arith
 digits-few base (suc most) least n = go (eqb n 0 && eqb least 0) (digits-few base most (least - 1) (n / base))
   where
-    go : (b : Bool) → length (digits base most (least - 1) (n / base)) ≤ most → length (cond b [] (digits base most (least - 1) (n / base) ++ (glyph (n % base) ∷ []))) ≤ suc most
+    go : (b : Bool) → length (digits base most (least - 1) (n / base)) ≤ most
+        → length (cond b [] (digits base most (least - 1) (n / base) ++ (glyph (n % base) ∷ []))) ≤ suc most
     go true h = omega arith
     go false h = simp length-append (omega arith)
 
@@ -61,8 +62,8 @@ put-start {old} {new} {bs} {n} p h =
 pub pieces-lines : {img : List ℕ} (l : List (ℕ × M.Node)) (r : Rows) (bytes : List ℕ) → Listed img r l → Pieces img r bytes → bytes ≡ lines_of l
 unfolding lines_of
 pieces-lines [] r bytes h (done z) = refl
-pieces-lines [] r bytes h (piece z room n p) = absurd (let y : r.left ≡ 0 = h.count in omega arith)
-pieces-lines (e ∷ l) r bytes h (done z) = absurd (let y : r.left ≡ suc (length l) = h.count in omega arith)
+pieces-lines [] r bytes h (piece z room n p) = absurd (let y : r.count ≡ 0 = h.count in omega arith)
+pieces-lines (e ∷ l) r bytes h (done z) = absurd (let y : r.count ≡ suc (length l) = h.count in omega arith)
 pieces-lines (e ∷ l) r bytes h (piece {n = nl} {bytes = rest} z room n p) =
     rw (put-start (n.line e l h) (omega (arith, line-of-short e)), pieces-lines l nl.rest rest (n.rest e l h) p)
 
@@ -75,7 +76,7 @@ opened_rows {img} {old} {new} {rows} o = go (snapshot_of (length old) img) o.ope
     go (refused n) d = absurd (let z : ◌≡◌ {A = ℕ} 0 1 = cc in omega arith)
     go (answer s) d = let e : rows ≡ d.0 = cc in (s.base.rows, rw e d.2)
 
-pub next-rows : {img old new : List ℕ} {rows : Rows} {r : Line} → HasRows img rows → (rows.left ≡ 0 → ⊥) → NextLine img rows old r new → HasRows img r.rest
+pub next-rows : {img old new : List ℕ} {rows : Rows} {r : Line} → HasRows img rows → (rows.count ≡ 0 → ⊥) → NextLine img rows old r new → HasRows img r.rest
 next-rows {img} {rows = rows} {r} h z n = go h.0 h.1
   where
     go : (l : List (ℕ × M.Node)) → Listed img rows l → HasRows img r.rest
@@ -86,7 +87,7 @@ next-rows {img} {rows = rows} {r} h z n = go h.0 h.1
 pub put-ends : {old new bs : List ℕ} {n : ℕ} → Put old 0 bs n new → length bs ≤ longest → n ≤ longest
 put-ends p h = omega (arith, p.to)
 
-pub line-ends : {img old new : List ℕ} {rows : Rows} {r : Line} → HasRows img rows → (rows.left ≡ 0 → ⊥) → NextLine img rows old r new → r.end ≤ longest
+pub line-ends : {img old new : List ℕ} {rows : Rows} {r : Line} → HasRows img rows → (rows.count ≡ 0 → ⊥) → NextLine img rows old r new → r.end ≤ longest
 line-ends {img} {rows = rows} {r} h z n = go h.0 h.1
   where
     go : (l : List (ℕ × M.Node)) → Listed img rows l → r.end ≤ longest

@@ -5,9 +5,9 @@ use Rattle.wire.specs.Combinators.{◌then◌}
 use Rattle.wire.specs.Reading.{Reads, meant}
 use Rattle.wire.specs.Put.{Put}
 use Rattle.wire.specs.Lists.{Every}
-use Rattle.image.specs.Meaning.{Node, Base, Store}
+use Rattle.image.specs.Meaning.{Node, Store}
 use Rattle.image.specs.FieldLayout.{inode}
-use Rattle.image.specs.NodeLayout.{node, base}
+use Rattle.image.specs.NodeLayout.{node}
 use Rattle.change.specs.Cuts.{rows_bytes}
 use Rattle.change.specs.Sections.{Spans}
 use Rattle.survey.specs.Verdict.{numbered}
@@ -19,23 +19,19 @@ use Rattle.rules.specs.Initial.{usual}
 use Rattle.rules.specs.Answers.{Answer, refused, answer}
 use Rattle.rules.specs.ChangeCalls.{snapshot_all, written}
 use Rattle.lines.specs.Lines.{line_of, snapshot_of}
-use Rattle.lines.specs.declared.rows.Rows.{Rows}
+use Rattle.image.specs.declared.rows.Rows.{Rows}
 use Rattle.lines.specs.declared.rows.Line.{Line}
 
 -- these inodes with their nodes stand in the image, from the place on: "Base: by rising inode: inode; kind .."
 pub record Listed (img : List ℕ) (r : Rows) (l : List (ℕ × Node)) : Type 0 where
   pub end : ℕ
-  pub spans : Spans img r.at (rows_bytes inode node l) end
-  pub count : r.left ≡ length l
+  pub spans : Spans img r.first (rows_bytes inode node l) end
+  pub count : r.count ≡ length l
   pub fits : Every (λ e. inode.Fits e.0 × node.Fits e.1) l
 
 -- inodes stand there, as many as are said to be left
 abbrev pub HasRows : List ℕ → Rows → Type 0
 HasRows img r = (l : List (ℕ × Node)) × Listed img r l
-
--- of an image that begins with a base, the rows of the base
-abbrev pub FirstRows : List ℕ → Rows → Type 0
-FirstRows img r = (b : Base) (end : ℕ) → base.Fits b → Spans img 0 (base.write b) end → Listed img r b.rows
 
 -- the refusal, or the inodes of the snapshot
 abbrev pub OpensTo : Answer Store → Result Rows Refusal → List ℕ → Type 0
@@ -57,7 +53,7 @@ pub record ReadsRow (img : List ℕ) (at : ℕ) (r : Result ((ℕ × N.Node) × 
 
 -- the line of the first of the inodes, and the inodes after it; one less is left, whatever stands there
 pub record NextLine (img : List ℕ) (rows : Rows) (old : List ℕ) (r : Line) (new : List ℕ) : Type 0 where
-  pub left : r.rest.left ≡ rows.left - 1
+  pub left : r.rest.count ≡ rows.count - 1
   pub line : (e : ℕ × Node) (l : List (ℕ × Node)) → Listed img rows (e ∷ l) → Put old 0 (line_of e) r.end new
   pub rest : (e : ℕ × Node) (l : List (ℕ × Node)) → Listed img rows (e ∷ l) → Listed img r.rest l
 
@@ -69,6 +65,6 @@ longest = 94
 
 -- What is written after the heading, line by line, each from the start of a buffer that has room for it, until no inode is left.
 pub data Pieces (img : List ℕ) : Rows → List ℕ → Type 0 where
-  done : {r : Rows} → r.left ≡ 0 → Pieces img r []
-  piece : {r : Rows} {old new : List ℕ} {n : Line} {bytes : List ℕ} → 0 < r.left → longest ≤ length old → NextLine img r old n new → Pieces img n.rest bytes
+  done : {r : Rows} → r.count ≡ 0 → Pieces img r []
+  piece : {r : Rows} {old new : List ℕ} {n : Line} {bytes : List ℕ} → 0 < r.count → longest ≤ length old → NextLine img r old n new → Pieces img n.rest bytes
       → Pieces img r (take n.end new ++ bytes)

@@ -2,11 +2,13 @@
 ghost use Rattle.std.specs.Prelude.{[], ◌∷◌, ◌++◌};
 ghost use Rattle.wire.specs.Put.{Put};
 ghost use Rattle.attrs.specs.Meant.{attr_meant};
+ghost use Rattle.survey.specs.Verdict.{number_of};
 ghost use Rattle.lines.specs.Digits.{decimal, octal};
 ghost use Rattle.lines.specs.Lines.{heading, line, refusal};
 
 use crate::digit::{put_decimal, put_octal};
 use attrs::node::FileAttr;
+use survey::refusal::Refusal;
 use wire::put::{put_byte, put_bytes};
 
 // Writes the heading.
@@ -46,9 +48,9 @@ pub fn put_line(buf: &mut [u8], at: usize, attr: FileAttr) -> usize
 }
 
 // Writes the line of a refusal.
-pub fn put_refusal(buf: &mut [u8], at: usize, number: u32) -> usize
-    ensures { Put buf.old at (refusal number) result buf.new }
+pub fn put_refusal(buf: &mut [u8], at: usize, refused: Refusal) -> usize
+    ensures { Put buf.old at (refusal (number_of refused)) result buf.new }
 {
     let next = put_bytes(buf, at, b"refused ");
-    put_field(buf, next, number as u64, b'\n')
+    put_field(buf, next, refused.number() as u64, b'\n')
 }

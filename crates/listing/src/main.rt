@@ -5,9 +5,10 @@
 
 ghost use Rattle.lines.specs.Rows.{HasRows};
 
+use image::rows::Rows;
 use input::fill;
 use lines::line::{put_heading, put_refusal};
-use lines::rows::{Rows, open_listing, put_next};
+use lines::rows::{open_listing, put_next};
 use std::io;
 use survey::refusal::Refusal;
 
@@ -27,7 +28,7 @@ fn list(rt: &impl Print, img: &[u8], target: &mut [u8]) -> io::Result<()> {
 
 fn write_refusal(rt: &impl Print, refusal: Refusal) -> io::Result<()> {
     let mut line = [0u8; 128];
-    let end = put_refusal(&mut line, 0, refusal.number());
+    let end = put_refusal(&mut line, 0, refusal);
     rt.write_all(&line[..end])
 }
 
@@ -39,7 +40,7 @@ fn write_lines(rt: &impl Print, snapshot: &[u8], rows: Rows) -> io::Result<()>
     let end = put_heading(&mut line, 0);
     rt.write_all(&line[..end])?;
     let mut rest = rows;
-    for _ in 0..rows.left {
+    for _ in 0..rows.count {
         let next = put_next(&mut line, snapshot, rest);
         rt.write_all(&line[..next.end])?;
         rest = next.rest;

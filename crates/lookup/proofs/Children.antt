@@ -27,17 +27,31 @@ use Rattle.nodes.specs.declared.node.NodeKind.TheVariants as K
 use Rattle.nodes.specs.Listed.{list_at, Listed}
 use Rattle.nodes.specs.Nodes.{EntriesListed, body_meant}
 use Rattle.deltas.specs.Deltas.{entry_meant}
-use Rattle.lookup.specs.declared.search.Rows.{Rows}
+use Rattle.image.specs.declared.name.Under.{Under}
+use Rattle.image.specs.declared.rows.Rows.{Rows}
+use Rattle.image.specs.Places.{Holds}
+use Rattle.lookup.specs.declared.list.NameList.{NameList}
 use Rattle.lookup.specs.declared.search.RowRead.{RowRead}
 use Rattle.stack.specs.Stacks.{BaseIs}
 use Rattle.stack.specs.InStack.{RecordIn, BaseIn, shown_lowest, shown_in}
 use Rattle.stack.specs.declared.stack.Stack.{Stack}
-use Rattle.lookup.specs.Search.{row_name, IsList, ListRows, ReadsRow, Finds}
-use Rattle.lookup.specs.Children.{child_under, EntriesAt, BaseEntries}
+use Rattle.lookup.specs.Lists.{IsList}
+use Rattle.lookup.specs.Search.{row_name, Standing, ListRows, ReadsRow}
+use Rattle.lookup.specs.Children.{child_under, Entries, Shows, EntriesAt, BaseEntries}
 use Rattle.stack.proofs.Walks.{shown-more, shown-base}
-use Rattle.lookup.proofs.Searching.{held_none, held-some, read_same, Seeks, seeks-list, seeks-on, seeks-here, seeks-past, seeks-end}
+use Rattle.lookup.proofs.Searching.{is-list, held_none, held-some, read_same, Seeks, seeks-list, seeks-on, seeks-here, seeks-past, seeks-end}
 
 -- ---- the entries of a layer
+
+-- a list of entries stands in the stack's image
+pub entries-there : (s : Stack) (l : NameList) → Entries s l → IsList s.img.now U.Inode l.place
+entries-there s l e = subst (λ (u : Under). IsList s.img.now u l.place) e.sort (subst (λ (m : List ℕ). IsList m l.what l.place) e.image l.listed)
+
+entry-rows : {img : List ℕ} (l : NameList) {r : Rows} → l.img.now ≡ img → l.what ≡ U.Inode → ListRows l r
+    → Standing img U.Inode None r.first r.count (list_at img U.Inode l.place).rows
+entry-rows {img} l {r} e d h =
+    let w = subst (λ (m : List ℕ). Standing m l.what None r.first r.count (list_at m l.what l.place).rows) e h in
+    subst (λ (u : Under). Standing img u None r.first r.count (list_at img u l.place).rows) d w
 
 under-is : (s : Stack) (name : Text) (n : ℕ) → 0 < n → child_under s name n ≡ shown_lowest (child name) s (n - 1)
 under-is s name zero h = absurd (omega arith)
@@ -54,12 +68,12 @@ entries-listed img (Some p) n b = (b.end, b.reads.entries)
 module _ (s : Stack) where
   -- "Last, a base directory's entries."
   module _ (n : M.Node) (b : BaseIn s (Some n)) where
-    pub base-directory : {parent : ℕ} {es : Part} → n.kind ≡ K.Directory parent es → BaseEntries s (Some es)
-    base-directory {parent} {es} e name =
-        let img = s.img.now in
-        let g = entries-listed img s.places.base n b in
-        let is = shown-base (child name) img s.places (Some n) b in
-        ((g.0, subst (λ (k : NodeKind). EntriesListed img k g.0) e g.1), is ∙ rw e (alone (get by_bytes name (list_at img U.Inode es))))
+    module _ {parent : ℕ} {es : Part} (e : n.kind ≡ K.Directory parent es) where
+      pub base-whole : (q : ℕ) × Listed s.img.now U.Inode es q
+      base-whole = let g = entries-listed s.img.now s.places.base n b in (g.0, subst (λ (k : NodeKind). EntriesListed s.img.now k g.0) e g.1)
+
+      pub base-directory : (name : Text) → Shows s name 0 es
+      base-directory name = shown-base (child name) s.img.now s.places (Some n) b ∙ rw e (alone (get by_bytes name (list_at s.img.now U.Inode es)))
 
     pub base-other : ((parent : ℕ) (es : Part) → n.kind ≡ K.Directory parent es → ⊥) → BaseEntries s None
     base-other h name = shown-base (child name) s.img.now s.places (Some n) b ∙ go n.kind h
@@ -85,23 +99,28 @@ module _ (s : Stack) where
 
     -- "Directory delta: removed name, none; else added name, its inode; else go on below."
     module _ {n : NodeDelta} {d : DirectoryDelta} (en : e ≡ E.Node n) (ed : n ≡ D.Directory d) where
-      lists : Listed s.img.now U.Inode d.added d.removed.start × Listed s.img.now U.Nothing d.removed g.end
+      pub lists : Listed s.img.now U.Inode d.added d.removed.start × Listed s.img.now U.Nothing d.removed g.end
       lists = rw (en, ed) at g.reads.lists
 
       pub removed-listed : IsList s.img.now U.Nothing d.removed
-      removed-listed = (g.end, lists.1)
+      removed-listed = is-list lists.1
 
-      pub at-removed : {place : Option ℕ} {p : ℕ} → Finds s.img.now U.Nothing d.removed name place → place ≡ Some p → EntriesAt s name layer None
+      pub added-listed : IsList s.img.now U.Inode d.added
+      added-listed = is-list lists.0
+
+      pub at-removed : {place : Option ℕ} {p : ℕ} → Holds s.img.now (under U.Nothing).read place (get by_bytes name (list_at s.img.now U.Nothing d.removed))
+          → place ≡ Some p → EntriesAt s name layer None
       at-removed {p = p} f y =
           let img = s.img.now in
           let o = held-some img (under U.Nothing).read p (get by_bytes name (list_at img U.Nothing d.removed)) (rw y at f) in
           stands ∙ rw (en, ed, o.2)
 
-      pub at_added : {place : Option ℕ} → Finds s.img.now U.Nothing d.removed name place → place ≡ None → EntriesAt s name layer (Some d.added)
+      pub at_added : {place : Option ℕ} → Holds s.img.now (under U.Nothing).read place (get by_bytes name (list_at s.img.now U.Nothing d.removed))
+          → place ≡ None → Shows s name layer d.added
       at_added f y =
           let img = s.img.now in
-          let o = held_none img (under U.Nothing).read (get by_bytes name (list_at img U.Nothing d.removed)) (rw y at f) in
-          ((d.removed.start, lists.0), stands ∙ rw (en, ed, o))
+          let h = held_none img (under U.Nothing).read (get by_bytes name (list_at img U.Nothing d.removed)) (rw y at f) in
+          stands ∙ rw (en, ed, h)
 
 -- ---- the walk
 
@@ -126,16 +145,15 @@ pub record Within (s : Stack) (name : Text) (found : Option ℕ) (layer here lef
   pub same : shown_in (child name) s ≡ meet (λ inode x. Some inode) has (child_under s name layer)
 
 module _ {s : Stack} {name : Text} where
-  pub above-start : Above s name None s.places.count
-  above-start = record { none_yet = refl; low = omega arith; same = refl }
-
   module _ {found : Option ℕ} {layer : ℕ} (w : Above s name found layer) where
-    pub above-decided : EntriesAt s name layer None → found ≡ shown_in (child name) s
-    above-decided e = rw (w.none_yet, w.same) (sym e)
-
-    pub above-into : {p : Part} {r : Rows} → EntriesAt s name layer (Some p) → ListRows s.img.now U.Inode p r → Within s name found layer r.first r.count
-    above-into {p} e l =
-        record { none_yet = w.none_yet; low = w.low; has = get by_bytes name (list_at s.img.now U.Inode p); seeks = seeks-list p l; same = w.same ∙ e.1 }
+    pub above-into : (l : NameList) {r : Rows} → EntriesAt s name layer (Some l) → ListRows l r → Within s name found layer r.first r.count
+    above-into l {r} e h = record {
+      none_yet = w.none_yet;
+      low = w.low;
+      has = get by_bytes name (list_at s.img.now U.Inode l.place);
+      seeks = seeks-list l.place (entry-rows l e.0.image e.0.sort h);
+      same = w.same ∙ e.1;
+    }
 
   module _ {found : Option ℕ} {layer here left : ℕ} (w : Within s name found layer here left) where
     below : w.has ≡ None → Passed s name found layer

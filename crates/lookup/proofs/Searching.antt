@@ -1,6 +1,6 @@
 -- How a list by name is looked through, row by row.
 -- Assumes nothing.
-use Rattle.std.specs.Prelude.{Result, Ok, Err, IsOk, None, Option, Some}
+use Rattle.std.specs.Prelude.{Result, Ok, None, Option, Some}
 use mathlib.Core.Path.{◌≡◌, refl, sym, ap, ◌∙◌, subst}
 use mathlib.Core.List.{List, [], ◌∷◌}
 use Prim.Native.Nat.{ℕ, zero, suc, ◌-◌, ◌≤◌, ◌<◌}
@@ -9,25 +9,27 @@ use lib.ListN.{drop}
 use Rattle.wire.specs.declared.fault.Fault.{Fault}
 use Rattle.std.specs.declared.cmp.Ordering.{Ordering}
 use Rattle.std.specs.declared.cmp.Ordering.TheVariants.{Less, Equal, Greater}
-use Rattle.wire.specs.Parse.{Parsed, got, bind, never-got, bind_inv}
+use Rattle.wire.specs.Parse.{Parsed, fault, got, bind, never-got, bind_inv}
 use Rattle.wire.specs.Number.{number_read}
-use Rattle.wire.specs.Text.{text-read}
 use Rattle.wire.specs.Orders.{by_bytes}
 use Rattle.wire.specs.Rows.{choose, lookup, Under}
 use Rattle.wire.specs.RowLaws.{lookup-under, under-below, never-lt}
-use Rattle.wire.specs.Maps.{Map, get, as_map, rows-as_map}
+use Rattle.wire.specs.Maps.{Map, empty, get, as_map, rows-as_map}
 use Rattle.wire.specs.Lists.{row, onto, rows, rising-read, mapped, last_count}
-use Rattle.wire.specs.Reading.{Reads, ReadsPart}
+use Rattle.wire.specs.Reading.{Reads}
 use Rattle.image.specs.declared.name.Under as U
 use Rattle.image.specs.Meaning.{Text}
 use Rattle.image.specs.FieldLayout.{name}
 use Rattle.image.specs.Under.{UnderName, under}
-use Rattle.image.specs.Places.{Ends, rows_from, Holds}
-use Rattle.image.proofs.Passing.{ends-got, ends-fault}
+use Rattle.image.specs.Places.{rows_from, Holds}
 use Rattle.image.proofs.Holding.{apart}
-use Rattle.nodes.specs.Listed.{by_name, list_at, Listed}
+use Rattle.nodes.specs.Listed.{read_or, by_name, list_at, Listed}
 use Rattle.wire.specs.declared.part.Part.{Part}
-use Rattle.lookup.specs.declared.search.Rows.{Rows}
+use Rattle.image.specs.Rows.{RowsAt}
+use Rattle.image.specs.declared.rows.Rows.{Rows}
+use Rattle.stack.specs.Stacks.{IsRead}
+use Rattle.lookup.specs.Lists.{IsList}
+use Rattle.lookup.specs.declared.list.NameList.{NameList}
 use Rattle.lookup.specs.declared.search.RowRead.{RowRead}
 use Rattle.lookup.specs.Search.{row_name, Standing, ListRows, RowAt, ReadsRow}
 use Rattle.wire.proofs.ListForms.{chain-forth, row-one, all-rising}
@@ -36,22 +38,8 @@ use Rattle.image.proofs.OneForm.{name-one, under-one}
 -- ---- what is read where something stands
 
 module _ {A : Type 0} {img : List ℕ} {n : ℕ} {r : List ℕ} where
-  pub read-ok : {p : List ℕ → Parsed A} {a : A} {o : Result (A × ℕ) Fault} → p (drop n img) ≡ got a r → Reads img p n o → IsOk o
-  read-ok {p} {o = o} e h = go o h
-    where
-      go : (o : Result (A × ℕ) Fault) → Reads img p n o → IsOk o
-      go (Ok x) h = refl
-      go (Err f) h = never-got (sym h.same ∙ e)
-
   pub read_same : {p : List ℕ → Parsed A} {a b : A} {m : ℕ} {o : Result (A × ℕ) Fault} → p (drop n img) ≡ got a r → Reads img p n o → o ≡ Ok (b, m) → b ≡ a
   read_same e h d = let g = rw d at h in cc (g.same, e)
-
-pub part-ok : {img : List ℕ} {p : List ℕ → Parsed (List ℕ)} {n : ℕ} {a r : List ℕ} {o : Result (Part × ℕ) Fault} → p (drop n img) ≡ got a r → ReadsPart img p n o → IsOk o
-part-ok {img} {p} {n} {o = o} e h = go o h
-  where
-    go : (o : Result (Part × ℕ) Fault) → ReadsPart img p n o → IsOk o
-    go (Ok x) h = refl
-    go (Err f) h = never-got (sym h.same ∙ e)
 
 -- ---- the count of a list, and its rows
 
@@ -65,22 +53,28 @@ module _ (u : U.Under) where
       → (c : ℕ) × (t : List ℕ) × (number_read last_count s ≡ got c t) × ((q : List ℕ) × (rows_from by_bytes name (under u) c None t ≡ got m.rows q))
   unfolding rising-read
   counted s {m} d =
-      let i = bind_inv ((rows by_bytes name (under u) last_count refl).read s) (λ l t. mapped by_bytes name (under u) last_count refl (as_map by_bytes l) t) d in
+      let i =
+      bind_inv ((rows by_bytes name (under u) last_count refl).read s) (λ l t. mapped by_bytes name (under u) last_count refl (as_map by_bytes l) t) d in
       let j = bind_inv (number_read last_count s) (λ c t. rows_from by_bytes name (under u) c None t) i.2 in
       let e : m.rows ≡ i.0 = rows-as_map by_bytes i.0 m (mapped-is (as_map by_bytes i.0) i.1 i.3) in
       (j.0, j.1, j.2, (i.1, j.3 ∙ ap (λ (l : List (Text × UnderName u)). got l i.1) (sym e)))
 
-module _ {img : List ℕ} {u : U.Under} {p : Part} {end : ℕ} (h : Listed img u p end) where
-  pub rows-ok : {o : Result (ℕ × ℕ) Fault} → Reads img (number_read last_count) p.start o → IsOk o
-  rows-ok {o} a = read-ok (counted u (drop p.start img) h.is).2 a
+-- where a list was read, there is one
+pub is-list : {img : List ℕ} {u : U.Under} {p : Part} {end : ℕ} → Listed img u p end → IsList img u p
+is-list h = subst IsRead (sym h.is) tt
 
-  pub rows-listed : {o : Result (ℕ × ℕ) Fault} {n first : ℕ} → Reads img (number_read last_count) p.start o → o ≡ Ok (n, first) → Standing img u None first n (list_at img u p).rows
-  rows-listed {n = n} {first} a e =
-      let b = rw e at a in
-      let k = counted u (drop p.start img) h.is in
-      let en : k.0 ≡ n = cc (b.same, k.2) in
-      let et : k.1 ≡ drop first img = cc (b.same, k.2) in
-      record { rest = k.3.0; read = rw (en, et) at k.3.1; within = b.within }
+pub list-is : (img : List ℕ) (u : U.Under) (p : Part) → IsList img u p → (r : List ℕ) × ((by_name u).read (drop p.start img) ≡ got (list_at img u p) r)
+list-is img u p h = go ((by_name u).read (drop p.start img)) h
+  where
+    go : (o : Parsed (Map by_bytes (UnderName u))) → IsRead o → (r : List ℕ) × (o ≡ got (read_or (empty by_bytes) o) r)
+    go (fault f) h = absurd h
+    go (got m r) h = (r, refl)
+
+pub rows-listed : (l : NameList) {r : Rows} → RowsAt l.img.now last_count l.place.start r → ListRows l r
+rows-listed l {r} h =
+    let k = counted l.what (drop l.place.start l.img.now) (list-is l.img.now l.what l.place l.listed).1 in
+    let z = h.counted k.0 k.1 k.2 in
+    record { rest = k.3.0; read = rw (← z.0, ← z.1) at k.3.1; within = h.within }
 
 -- ---- a row
 
@@ -91,33 +85,6 @@ pub record Taken (img : List ℕ) (u : U.Under) (left : ℕ) (rows : List (Text 
   pub standing : Standing img u (Some (row_name img r)) r.next (left - 1) others
   pub rise : Under by_bytes (row_name img r) others
 
-module _ {img : List ℕ} (u : U.Under) {at : ℕ} (h : RowAt img u at) {o : Result (Part × ℕ) Fault} (a : ReadsPart img (text-read 1 255) at o) where
-  pub name-ok : IsOk o
-  name-ok = part-ok (apart by_bytes name (under u) img [] h.0 (drop at img) h.3).keyed a
-
-  module _ {k : Part} {m : ℕ} (d : o ≡ Ok (k, m)) {w : Result ℕ Fault} (g : Ends img (under u).read m w) where
-    -- what stands under the name is read after it
-    valued : (under u).read (drop m img) ≡ got h.1.1 h.2
-    valued =
-        let b = rw d at a in
-        let r = apart by_bytes name (under u) img [] h.0 (drop at img) h.3 in
-        let z : r.mid ≡ drop m img = cc (r.keyed, b.same) in
-        rw z at r.valued
-
-    pub under-ok : IsOk w
-    under-ok = go w g
-      where
-        go : (w : Result ℕ Fault) → Ends img (under u).read m w → IsOk w
-        go (Ok q) g = refl
-        go (Err f) g = never-got (sym (ends-fault g) ∙ valued)
-
-    pub reads-row : {q : ℕ} → w ≡ Ok q → ReadsRow img u at (record { name = k; under = m; next = q })
-    reads-row {q} e =
-        let b = rw d at a in
-        let f = rw e at g in
-        let v = ends-got f in
-        record { value = v.0; named = b.same; held = v.1; within = f.within }
-
 module _ {img : List ℕ} {u : U.Under} where
   pub row-there : {prev : Option Text} {here left : ℕ} {l : List (Text × UnderName u)} → 0 < left → Standing img u prev here left l → RowAt img u here
   row-there {prev} {here} {left} {l} h w = go left h w.read
@@ -125,11 +92,14 @@ module _ {img : List ℕ} {u : U.Under} where
       go : (n : ℕ) → 0 < n → rows_from by_bytes name (under u) n prev (drop here img) ≡ got l w.rest → RowAt img u here
       go zero h d = absurd (omega arith)
       go (suc n) h d =
-          let i = bind_inv ((row by_bytes name (under u) prev).read (drop here img)) (λ a t. bind (rows_from by_bytes name (under u) n (Some a.0) t) (λ m q. got (a ∷ m) q)) d in
+          let i =
+          bind_inv ((row by_bytes name (under u) prev).read (drop here img))
+          (λ a t. bind (rows_from by_bytes name (under u) n (Some a.0) t) (λ m q. got (a ∷ m) q)) d in
           (prev, i.0, i.1, i.2)
 
   module _ {here : ℕ} {r : RowRead} (g : ReadsRow img u here r) where
-    row_first : (prev : Option Text) (n : ℕ) (e : Text × UnderName u) (t : List ℕ) (others : List (Text × UnderName u)) (q : List ℕ) → (row by_bytes name (under u) prev).read (drop here img) ≡ got e t
+    row_first : (prev : Option Text) (n : ℕ) (e : Text × UnderName u) (t : List ℕ) (others : List (Text × UnderName u)) (q : List ℕ)
+        → (row by_bytes name (under u) prev).read (drop here img) ≡ got e t
         → rows_from by_bytes name (under u) n (Some e.0) t ≡ got others q → Taken img u (suc n) (e ∷ others) r g.value
     row_first prev n e t others q d b =
         let a = apart by_bytes name (under u) img [] prev (drop here img) d in
@@ -139,7 +109,9 @@ module _ {img : List ℕ} {u : U.Under} where
         let ev : e.1 ≡ g.value = cc g.held in
         let et : t ≡ drop r.next img = cc g.held in
         let k : rows_from by_bytes name (under u) n (Some (row_name img r)) (drop r.next img) ≡ got others q = rw (ek, et) at b in
-        let f = chain-forth (row by_bytes name (under u)) (onto by_bytes name (under u)) (row-one by_bytes name (under u) name-one (under-one u)) n (Some (row_name img r)) (drop r.next img) others q k in
+        let f =
+        chain-forth (row by_bytes name (under u)) (onto by_bytes name (under u)) (row-one by_bytes name (under u) name-one (under-one u)) n
+        (Some (row_name img r)) (drop r.next img) others q k in
         let z : suc n - 1 ≡ n = omega arith in
         record {
           others = others;
@@ -154,7 +126,9 @@ module _ {img : List ℕ} {u : U.Under} where
         go : (n : ℕ) → 0 < n → rows_from by_bytes name (under u) n prev (drop here img) ≡ got l w.rest → Taken img u n l r g.value
         go zero h d = absurd (omega arith)
         go (suc n) h d =
-            let i = bind_inv ((row by_bytes name (under u) prev).read (drop here img)) (λ a t. bind (rows_from by_bytes name (under u) n (Some a.0) t) (λ m q. got (a ∷ m) q)) d in
+            let i =
+            bind_inv ((row by_bytes name (under u) prev).read (drop here img))
+            (λ a t. bind (rows_from by_bytes name (under u) n (Some a.0) t) (λ m q. got (a ∷ m) q)) d in
             let j = bind_inv (rows_from by_bytes name (under u) n (Some i.0.0) i.1) (λ m q. got (i.0 ∷ m) q) i.3 in
             let e : i.0 ∷ j.0 ≡ l = cc j.3 in
             subst (λ (l : List (Text × UnderName u)). Taken img u (suc n) l r g.value) e (row_first prev n i.0 i.1 j.0 j.1 i.2 j.2)
@@ -177,7 +151,8 @@ pub record Seeks (img : List ℕ) (u : U.Under) (k : Text) (here left : ℕ) (o 
   pub has : lookup by_bytes k rows ≡ o
 
 module _ {img : List ℕ} {u : U.Under} {k : Text} where
-  pub seeks-list : (p : Part) {r : Rows} → ListRows img u p r → Seeks img u k r.first r.count (get by_bytes k (list_at img u p))
+  pub seeks-list : (p : Part) {r : Rows} → Standing img u None r.first r.count (list_at img u p).rows
+      → Seeks img u k r.first r.count (get by_bytes k (list_at img u p))
   unfolding get
   seeks-list p h = record { prev = None; rows = (list_at img u p).rows; standing = h; has = refl }
 
@@ -186,7 +161,8 @@ module _ {img : List ℕ} {u : U.Under} {k : Text} where
     unfolding lookup
     seeks-end h = go left h w.rows w.standing.read w.has
       where
-        go : (n : ℕ) → n ≤ 0 → (l : List (Text × UnderName u)) → rows_from by_bytes name (under u) n w.prev (drop here img) ≡ got l w.standing.rest → lookup by_bytes k l ≡ o
+        go : (n : ℕ) → n ≤ 0 → (l : List (Text × UnderName u))
+            → rows_from by_bytes name (under u) n w.prev (drop here img) ≡ got l w.standing.rest → lookup by_bytes k l ≡ o
             → o ≡ None
         go (suc n) h l d e = absurd (omega arith)
         go zero h [] d e = sym e
@@ -218,7 +194,8 @@ module _ {img : List ℕ} {u : U.Under} {k : Text} where
       pub seeks-past : by_bytes.cmp (row_name img r) k ≡ Greater → o ≡ None
       seeks-past e =
           let d : by_bytes.cmp k (row_name img r) ≡ Less = by_bytes.flip (row_name img r) k e in
-          sym has-row ∙ lookup-under by_bytes k (((row_name img r), g.value) ∷ taken.others) (d, under-below by_bytes k (row_name img r) taken.others d taken.rise)
+          sym has-row
+          ∙ lookup-under by_bytes k (((row_name img r), g.value) ∷ taken.others) (d, under-below by_bytes k (row_name img r) taken.others d taken.rise)
 
 -- ---- what a place holds
 

@@ -1,3 +1,4 @@
 -- Lists looked through by name.
+pub mod Lists
 pub mod Search
 pub mod Children

@@ -7,7 +7,8 @@ ghost use Rattle.stack.specs.InStack.{shown_in};
 ghost use Rattle.layers.specs.Answered.{answered};
 ghost use Rattle.lookup.specs.Children.{EntriesAt, BaseEntries};
 
-use crate::search::{find_name, read_row, rows_of};
+use crate::list::NameList;
+use crate::search::read_row;
 use deltas::delta::{EntryDelta, NodeDelta};
 use image::name::Under;
 use nodes::node::NodeKind;
@@ -17,7 +18,6 @@ use std::cmp::Ordering;
 use survey::refusal::Refusal;
 use wire::number::read_number;
 use wire::order::compare_part;
-use wire::part::Part;
 
 // The inode that a name leads to in a directory.
 pub fn lookup_child(img: &[u8], ino: u64, name: &[u8]) -> Result<Option<u64>, Refusal>
@@ -38,7 +38,7 @@ fn child_in(stack: Stack, name: &[u8]) -> Option<u64>
         let Some(list) = entries_at(stack, layer, name) else {
             break 'layers;
         };
-        let rows = rows_of(stack.img, list, Under::Inode);
+        let rows = list.rows();
         let mut here = rows.first;
         for _ in 0..rows.count {
             let row = read_row(stack.img, here, Under::Inode);
@@ -59,7 +59,7 @@ fn child_in(stack: Stack, name: &[u8]) -> Option<u64>
 
 // The entries that a layer adds, or those of the base. None, where the layer decides that there is no such child.
 #[tactic(auto, using(crate::proofs::Children::layers))]
-fn entries_at(stack: Stack, layer: usize, name: &[u8]) -> Option<Part>
+fn entries_at<'a>(stack: Stack<'a>, layer: usize, name: &[u8]) -> Option<NameList<'a>>
     requires { layer ≤ stack.places.count }
     ensures { EntriesAt stack.entry name.now layer result }
 {
@@ -69,18 +69,32 @@ fn entries_at(stack: Stack, layer: usize, name: &[u8]) -> Option<Part>
     let EntryDelta::Node(NodeDelta::Directory(directory)) = stack.record(layer - 1) else {
         return None;
     };
-    match find_name(stack.img, directory.removed, Under::Nothing, name) {
+    let removed = NameList {
+        img: stack.img,
+        place: directory.removed,
+        what: Under::Nothing,
+    };
+    let added = NameList {
+        img: stack.img,
+        place: directory.added,
+        what: Under::Inode,
+    };
+    match removed.find(name) {
         Some(_) => None,
-        None => Some(directory.added),
+        None => Some(added),
     }
 }
 
 // The entries of a base directory.
-pub fn base_entries(stack: Stack) -> Option<Part>
+pub fn base_entries(stack: Stack) -> Option<NameList>
     ensures { BaseEntries stack.entry result }
 {
     match stack.base()?.kind {
-        NodeKind::Directory { parent: _, entries } => Some(entries),
+        NodeKind::Directory { parent: _, entries } => Some(NameList {
+            img: stack.img,
+            place: entries,
+            what: Under::Inode,
+        }),
         _ => None,
     }
 }

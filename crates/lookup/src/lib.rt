@@ -2,4 +2,5 @@
 #![tactic(auto)]
 
 pub mod child;
+pub mod list;
 pub mod search;

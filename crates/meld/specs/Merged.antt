@@ -16,10 +16,8 @@ use Rattle.change.specs.Sections.{between}
 use Rattle.change.specs.Cuts.{rows_below, rows_above, rows_bytes}
 use Rattle.meld.specs.declared.row.Left.{Left}
 use Rattle.meld.specs.declared.row.Row.{Row}
-use Rattle.meld.specs.declared.merged.Side.{Side}
-use Rattle.meld.specs.declared.merged.Side.TheVariants as S
 use Rattle.meld.specs.declared.merged.Turn.{Turn}
-use Rattle.meld.specs.declared.merged.MergedRows.{MergedRows}
+use Rattle.wire.specs.declared.put.Written.{Written}
 
 -- ---- rows
 
@@ -46,8 +44,8 @@ unfoldable pub rows_read : ℕ → List ℕ → List ChangeRow
 rows_read zero s = []
 rows_read (suc n) s = or_end (name.read s) (λ k r. or_end ((maybe value).read r) (λ v q. (k, v) ∷ rows_read n q))
 
-abbrev pub rows_in : List ℕ → Left → List ChangeRow
-rows_in bytes l = rows_read l.count (drop l.first bytes)
+abbrev pub rows_in : Left → List ChangeRow
+rows_in l = rows_read l.count (drop l.first l.bytes.now)
 
 -- those of a list, its count first
 abbrev pub rows_at : List ℕ → ℕ → List ChangeRow
@@ -58,70 +56,72 @@ rows_at bytes p = or_end (number_read last_count (drop p bytes)) rows_read
 -- the rows of the list at a place
 pub record RowsFrom (bytes : List ℕ) (at : ℕ) (r : Left) : Type 0 where
   pub few : r.count ≤ last_count
-  pub are : rows_in bytes r ≡ rows_at bytes at
+  pub are : rows_in r ≡ rows_at bytes at
 
 -- this row is the first, and its bytes are those up to the rows after it
-pub record Leads (bytes : List ℕ) (l : Left) (r : Row) : Type 0 where
+pub record Leads (l : Left) (r : Row) : Type 0 where
   pub change : Option Text
-  pub is : rows_in bytes l ≡ (text_at bytes r.name, change) ∷ rows_in bytes r.rest
-  pub spells : between bytes l.first r.rest.first ≡ change_bytes (text_at bytes r.name, change)
+  pub is : rows_in l ≡ (text_at l.bytes.now r.name, change) ∷ rows_in r.rest
+  pub spells : between l.bytes.now l.first r.rest.first ≡ change_bytes (text_at l.bytes.now r.name, change)
   pub less : suc r.rest.count ≡ l.count
 
 -- the first row, or there is none
-abbrev pub RowOf : List ℕ → Left → Option Row → Type 0
-RowOf bytes l (Some r) = Leads bytes l r
-RowOf bytes l None = rows_in bytes l ≡ []
+abbrev pub RowOf : Left → Option Row → Type 0
+RowOf l (Some r) = Leads l r
+RowOf l None = rows_in l ≡ []
 
-pub record RowIs (bytes : List ℕ) (l : Left) (r : Option Row) : Type 0 where
-  pub is : RowOf bytes l r
+pub record RowIs (l : Left) (r : Option Row) : Type 0 where
+  pub is : RowOf l r
 
 -- the row given, and then these rows
 abbrev pub own_turn : Left → Row → Left → Turn
-own_turn new upper old = record { side = S.Given; start = new.first; end = upper.rest.first; new = upper.rest; old = old }
+own_turn new upper old = record { bytes = new.bytes; start = new.first; end = upper.rest.first; new = upper.rest; old = old }
 
 -- the row of the image, and then what is left
 abbrev pub lower_turn : Left → Left → Row → Turn
-lower_turn new old lower = record { side = S.Old; start = old.first; end = lower.rest.first; new = new; old = lower.rest }
+lower_turn new old lower = record { bytes = old.bytes; start = old.first; end = lower.rest.first; new = new; old = lower.rest }
+
+-- the rows of both
+abbrev pub both_rows : Left → Left → List ChangeRow
+both_rows new old = melded by_bytes (rows_in new) (rows_in old)
+
+abbrev pub turn_bytes : Turn → List ℕ
+turn_bytes r = between r.bytes.now r.start r.end
+
+-- this turn's row is the next of both
+pub record Goes (new old : Left) (r : Turn) : Type 0 where
+  pub row : ChangeRow
+  pub is : both_rows new old ≡ row ∷ both_rows r.new r.old
+  pub spells : turn_bytes r ≡ change_bytes row
+  pub less : r.new.count + r.old.count < new.count + old.count
+
+-- the next row of both, or there is none
+abbrev pub TurnOf : Left → Left → Option Turn → Type 0
+TurnOf new old (Some r) = Goes new old r
+TurnOf new old None = both_rows new old ≡ []
+
+pub record TurnIs (new old : Left) (r : Option Turn) : Type 0 where
+  pub is : TurnOf new old r
+
+-- the rows of both are put, and counted
+pub record PutsRows (new old : Left) (buf : List ℕ) (at : ℕ) (r : Written) (end : List ℕ) : Type 0 where
+  pub put : Put buf at (rows_bytes name (maybe value) (both_rows new old)) r.end end
+  pub counts : r.count ≡ length (both_rows new old)
+
+-- rows as a list, the count first
+abbrev pub counted_bytes : List ChangeRow → List ℕ
+counted_bytes l = number_bytes (length l) ++ rows_bytes name (maybe value) l
+
+abbrev pub both_bytes : Left → Left → List ℕ
+both_bytes new old = counted_bytes (both_rows new old)
 
 module _ (img given : List ℕ) where
-  -- the rows of both
-  abbrev pub both_rows : Left → Left → List ChangeRow
-  both_rows new old = melded by_bytes (rows_in given new) (rows_in img old)
-
-  -- the bytes that hold a side's list
-  abbrev pub side_bytes : Side → List ℕ
-  side_bytes S.Given = given
-  side_bytes S.Old = img
-
-  abbrev pub turn_bytes : Turn → List ℕ
-  turn_bytes r = between (side_bytes r.side) r.start r.end
-
-  -- this turn's row is the next of both
-  pub record Goes (new old : Left) (r : Turn) : Type 0 where
-    pub row : ChangeRow
-    pub is : both_rows new old ≡ row ∷ both_rows r.new r.old
-    pub spells : turn_bytes r ≡ change_bytes row
-    pub less : r.new.count + r.old.count < new.count + old.count
-
-  -- the next row of both, or there is none
-  abbrev pub TurnOf : Left → Left → Option Turn → Type 0
-  TurnOf new old (Some r) = Goes new old r
-  TurnOf new old None = both_rows new old ≡ []
-
-  pub record TurnIs (new old : Left) (r : Option Turn) : Type 0 where
-    pub is : TurnOf new old r
-
-  -- the rows of both are put, and counted
-  pub record PutsRows (new old : Left) (buf : List ℕ) (at : ℕ) (r : MergedRows) (end : List ℕ) : Type 0 where
-    pub put : Put buf at (rows_bytes name (maybe value) (both_rows new old)) r.end end
-    pub counts : r.count ≡ length (both_rows new old)
-
   -- the lists at two places as one, its count first
   abbrev pub merged_rows : ℕ → ℕ → List ChangeRow
   merged_rows new old = melded by_bytes (rows_at given new) (rows_at img old)
 
   abbrev pub merged_bytes : ℕ → ℕ → List ℕ
-  merged_bytes new old = number_bytes (length (merged_rows new old)) ++ rows_bytes name (maybe value) (merged_rows new old)
+  merged_bytes new old = counted_bytes (merged_rows new old)
 
   -- the attribute changes of both, if one has any
   abbrev pub changes_anew : Option Part → Option Part → List ℕ

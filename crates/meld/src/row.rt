@@ -2,49 +2,50 @@
 ghost use Rattle.meld.specs.Merged.{RowsFrom, RowIs};
 
 use image::field::LAST_WORD;
-use image::name::{Under, pass_under};
-use wire::number::read_number;
+use image::name::{Under, pass_under, read_name};
+use image::rows::rows_at;
 use wire::part::Part;
-use wire::text::read_text;
 
-// The rows that are left of a list: `count` of them, the first at `first`.
+// The rows that are left of a list: `count` of them, the first at `first` of the bytes that hold the list.
 #[derive(Clone, Copy)]
-pub struct Left {
+pub struct Left<'a> {
+    pub bytes: &'a [u8],
     pub first: usize,
     pub count: u64,
 }
 
 // The first of the rows that are left: its name, and the rows after it.
 #[derive(Clone, Copy)]
-pub struct Row {
+pub struct Row<'a> {
     pub name: Part,
-    pub rest: Left,
+    pub rest: Left<'a>,
 }
 
 // All rows of the list at `at`, its count first.
-pub fn rows_at(bytes: &[u8], at: usize) -> Left
+pub fn all_rows(bytes: &[u8], at: usize) -> Left
     ensures { RowsFrom bytes.now at result }
 {
-    let (count, first) = read_number(bytes, at, LAST_WORD).unwrap_or((0, 0));
-    Left { first, count }
+    let rows = rows_at(bytes, at, LAST_WORD);
+    Left {
+        bytes,
+        first: rows.first,
+        count: rows.count,
+    }
 }
 
 // The first row, if there is one.
-pub fn first_row(bytes: &[u8], left: Left) -> Option<Row>
-    ensures { RowIs bytes.now left result }
+pub fn first_row(left: Left) -> Option<Row>
+    ensures { RowIs left.entry result }
 {
     if left.count == 0 {
         return None;
     }
-    let Ok((name, start)) = read_text(bytes, left.first, 1, 255) else {
-        return None;
-    };
-    let Ok(first) = pass_under(bytes, start, Under::Change) else {
-        return None;
-    };
+    let (name, start) = read_name(left.bytes, left.first).ok()?;
+    let first = pass_under(left.bytes, start, Under::Change).ok()?;
     let rest = Left {
         first,
         count: left.count - 1,
+        ..left
     };
     Some(Row { name, rest })
 }

@@ -5,3 +5,4 @@ pub mod Lists
 pub mod Sourced
 pub mod Merging
 pub mod Settling
+pub mod Few

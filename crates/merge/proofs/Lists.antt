@@ -47,7 +47,8 @@ module _ (img : List ℕ) (u : Under) where
   abbrev rows_written : Option Text → List (Text × UnderName u) → List ℕ
   rows_written = chain_write (row by_bytes name (under u)) (onto by_bytes name (under u))
 
-  rows_are : (prev : Option Text) (q : ℕ) (l : List (Text × UnderName u)) (t : List ℕ) → Every (FitsRow by_bytes name (under u)) l → drop q img ≡ rows_written prev l ++ t
+  rows_are : (prev : Option Text) (q : ℕ) (l : List (Text × UnderName u)) (t : List ℕ) → Every (FitsRow by_bytes name (under u)) l
+      → drop q img ≡ rows_written prev l ++ t
       → rows_from img u (length l) q ≡ map (map_row by_bytes (decided u)) (start_rows (under u) q l)
   unfolding rows_from start_rows
   rows_are prev q [] t f d = refl

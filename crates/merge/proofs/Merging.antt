@@ -1,26 +1,26 @@
 -- The loops over the sources, and one row more or less of each.
 -- Assumes nothing.
 use Rattle.std.specs.Prelude.{None, Option, Some}
-use mathlib.Core.Path.{◌≡◌, refl, ◌∙◌}
-use mathlib.Core.List.{List, [], ◌∷◌, ◌++◌, map}
+use mathlib.Core.Path.{◌≡◌, refl, sym, ◌∙◌}
+use mathlib.Core.List.{List, [], ◌∷◌, ◌++◌, map, append_assoc, append-nil}
 use Prim.Native.Nat.{ℕ, zero, suc, ◌+◌, ◌-◌, ◌≤◌, ◌<◌}
 use native.Mathlib.Omega.{arith}
 use native.Mathlib.Numerals.{add-one}
-use lib.ListN.{length, take, drop, get_or, set, drop_of_length-le}
-use lib.Seq.{drop-cons}
+use lib.ListN.{length, take, get_or, set}
 use Rattle.std.specs.declared.cmp.Ordering.{Ordering}
 use Rattle.std.specs.declared.cmp.Ordering.TheVariants.{Less, Equal, Greater}
 use Rattle.wire.specs.declared.part.Part.{Part}
 use Rattle.wire.specs.Orders.{by_bytes}
+use Rattle.wire.specs.Rows.{choose}
 use Rattle.image.specs.Meaning.{Text}
 use Rattle.nodes.specs.Options.{text_at}
 use Rattle.rules.specs.Changes.{map_if}
 use Rattle.merge.specs.Pile.{pass, pass_all, first, least}
-use Rattle.merge.specs.Sources.{Decided, rows_from, source_rows, row_at, head_rows, HeadOf}
-use Rattle.merge.specs.Merges.{sources_of, in_order, Pushes, Upper, Least, Passed, PassedAll}
+use Rattle.merge.specs.Sources.{Decided, rows_from, source_rows, sources_of, row_at, head_rows, HeadOf}
+use Rattle.merge.specs.Merges.{in_order, Pushes, Upper, Least, Passed, PassedAll}
 use Rattle.merge.specs.declared.source.Source.{Source}
-use Rattle.merge.specs.declared.source.Head.{Head}
-use Rattle.merge.specs.declared.sources.Sources.{Sources}
+use Rattle.merge.specs.declared.read.Head.{Head}
+use Rattle.merge.specs.declared.sources.Lists.{Lists}
 use Rattle.merge.specs.declared.merge.AtMostTwo.{AtMostTwo}
 use Rattle.merge.specs.declared.merge.AtMostTwo.TheVariants as F
 
@@ -36,26 +36,13 @@ many-two (F.One s) = omega arith
 many-two (F.Two s t) = omega arith
 
 -- the rows after lists more
-pub sources-more : (img : List ℕ) {all r : Sources} {l : List Source} → Pushes all l r
+pub sources-more : (img : List ℕ) {all r : Lists} {l : List Source} → Pushes all l r
     → sources_of img (take r.count r.rows) ≡ sources_of img (take all.count all.rows) ++ sources_of img l
 sources-more img {all} {r} {l} p = rw p.are (map_append (source_rows img) (take all.count all.rows) l)
 
--- ---- of two rows
-
-module _ {img : List ℕ} {x y : Option Head} {a b : Head} (i : x ≡ Some a) (j : y ≡ Some b) {o : Ordering} {n : List ℕ}
-    (d : o ≡ by_bytes.cmp (text_at img a.name) n) (e : n ≡ text_at img b.name) where
-  pub upper-less : o ≡ Less → Upper img x y (Some a)
-  upper-less g = rw (i, j) (record { is = rw (← e, ← d, g); inside = λ x y. x })
-
-  pub upper-equal : o ≡ Equal → Upper img x y (Some a)
-  upper-equal g = rw (i, j) (record { is = rw (← e, ← d, g); inside = λ x y. x })
-
-  pub upper-greater : o ≡ Greater → Upper img x y (Some b)
-  upper-greater g = rw (i, j) (record { is = rw (← e, ← d, g); inside = λ x y. y })
-
 -- ---- past a name
 
-module _ {img : List ℕ} {s : Source} {h : Option Head} (f : HeadOf img s.what s.left s.at h) where
+module _ {img : List ℕ} (s : Source) {h : Option Head} (f : HeadOf img s.what s.left s.at h) where
   pub passed_none : {name : Part} → h ≡ None → Passed img s name s
   unfolding pass
   passed_none e =
@@ -67,45 +54,47 @@ module _ {img : List ℕ} {s : Source} {h : Option Head} (f : HeadOf img s.what 
     here = rw k at f.are
 
     module _ {name : Part} {o : Ordering} {n : List ℕ} (d : o ≡ by_bytes.cmp (text_at img name) n) (e : n ≡ text_at img a.name) where
-      pub passed-less : o ≡ Less → Passed img s name s
+      pub passed-other : (o ≡ Equal → ⊥) → Passed img s name s
       unfolding pass
-      passed-less g = record { is = rw (here, ← e, ← d, g) }
+      passed-other g = record { is = rw (here, ← e, ← d) (go o g _) }
+        where
+          go : {A : Type 0} {x : A} (o : Ordering) → (o ≡ Equal → ⊥) → (y : A) → x ≡ choose o y x
+          go Less g y = refl
+          go Equal g y = absurd (g refl)
+          go Greater g y = refl
 
-      pub passed-greater : o ≡ Greater → Passed img s name s
+      pub passed-equal : (r : Source) → r.at ≡ a.next → r.left ≡ s.left - 1 → r.what ≡ s.what → o ≡ Equal → Passed img s name r
       unfolding pass
-      passed-greater g = record { is = rw (here, ← e, ← d, g) }
+      passed-equal r i j k g = record { is = rw (here, ← e, ← d, g, i, j, k) }
 
-      pub passed-equal : o ≡ Equal → Passed img s name (record { at = a.next; left = s.left - 1; what = s.what })
-      unfolding pass
-      passed-equal g = record { is = rw (here, ← e, ← d, g) }
+-- ---- the least name: of those seen, which are the last, it is that of best
 
--- ---- the least name: from i on it is that of best
-
-abbrev pub Best : List ℕ → List Source → ℕ → Option Head → Type 0
-Best img l i best = Least img (drop i l) best
+pub record Best (img : List ℕ) (l rest : List Source) (best : Option Head) : Type 0 where
+  pub seen : List Source
+  pub are : l ≡ rest ++ seen
+  pub is : Least img seen best
 
 -- the row that stands first
-first-is : {img : List ℕ} {s : Source} {h : Option Head} → HeadOf img s.what s.left s.at h → first by_bytes (source_rows img s) ≡ map_if (row_at img) h
-first-is {img} {s} {h} d = go h d.are
+first-is : {img : List ℕ} (s : Source) {h : Option Head} → HeadOf img s.what s.left s.at h → first by_bytes (source_rows img s) ≡ map_if (row_at img) h
+first-is {img} s {h} d = go h d.are
   where
     go : (h : Option Head) → source_rows img s ≡ head_rows img s.what (s.left - 1) h → first by_bytes (source_rows img s) ≡ map_if (row_at img) h
     go (Some a) e = rw e
     go None e = rw e
 
-pub best_none : (img : List ℕ) (l : List Source) → Best img l (length l) None
+pub best_none : (img : List ℕ) (l : List Source) → Best img l l None
 unfolding least
-best_none img l = record { is = rw (drop_of_length-le l {i = length l} (omega arith)); inside = tt }
+best_none img l = record { seen = []; are = sym (append-nil l); is = record { is = refl; inside = tt } }
 
 -- the source before joins
-best-step : {img : List ℕ} (l : List Source) (j : ℕ) (s : Source) {best h r : Option Head} → Best img l (suc j) best → j < length l
-    → HeadOf img (get_or l j s).what (get_or l j s).left (get_or l j s).at h
-    → Upper img h best r → Best img l j r
+pub best-more : {img : List ℕ} {l rest next : List Source} (s : Source) {best h r : Option Head} → Best img l rest best → rest ≡ next ++ s ∷ []
+    → HeadOf img s.what s.left s.at h → Upper img h best r → Best img l next r
 unfolding least
-best-step {img} l j s b p f u = record { is = rw (drop-cons l j s p, b.is, first-is {s = get_or l j s} f) u.is; inside = u.inside f.inside b.inside }
-
-pub best-more : {img : List ℕ} (l : List Source) (i : ℕ) (s : Source) {best h r : Option Head} → Best img l i best → 0 < i → i ≤ length l
-    → HeadOf img (get_or l (i - 1) s).what (get_or l (i - 1) s).left (get_or l (i - 1) s).at h → Upper img h best r → Best img l (i - 1) r
-best-more l i s b p q f u = let z : i ≡ suc (i - 1) = omega arith in best-step l (i - 1) s (rw z at b) (omega arith) f u
+best-more {next = next} s b e f u = record {
+  seen = s ∷ b.seen;
+  are = b.are ∙ rw e (append_assoc next (s ∷ []) b.seen);
+  is = record { is = rw (b.is.is, first-is s f) u.is; inside = u.inside f.inside b.is.inside };
+}
 
 -- ---- each source moved past a name: so far the first i
 

@@ -132,7 +132,8 @@ module _ {K : Type 0} (O : Order K) {C : Type 0} where
       go None e h ih = here h
       go (Some b) e h ih = choice (O.cmp u.0 b) h (ih b e)
         where
-          choice : (d : Ordering) → pick_key O d u.0 b ≡ Some k → total (pass_all O b ss) < total ss → total (pass_all O k ((u ∷ s) ∷ ss)) < total ((u ∷ s) ∷ ss)
+          choice : (d : Ordering) → pick_key O d u.0 b ≡ Some k → total (pass_all O b ss) < total ss
+              → total (pass_all O k ((u ∷ s) ∷ ss)) < total ((u ∷ s) ∷ ss)
           choice Less h f = here h
           choice Equal h f = here h
           choice Greater h f =
@@ -221,7 +222,8 @@ module _ {K : Type 0} (O : Order K) {C : Type 0} where
     pile-end ((u ∷ s) ∷ ss) h = absurd (none-lower O u.0 (least_key O ss) h)
 
     -- the least key goes first, and then the rest
-    pub pile-step : (ss : List (List (K × C))) → Ascend O ss → (k : K) → least_key O ss ≡ Some k → pile O g ss ≡ row k (answer O g k ss) (pile O g (pass_all O k ss))
+    pub pile-step : (ss : List (List (K × C))) → Ascend O ss → (k : K) → least_key O ss ≡ Some k
+        → pile O g ss ≡ row k (answer O g k ss) (pile O g (pass_all O k ss))
     unfolding lookup
     pile-step ss r k h =
         ext O _ _ (rising-pile ss) (rising-row (answer O g k ss)) (λ j. lookup-pile j ss r ∙ at j (O.cmp j k) refl ∙ inverse (lookup-row j (answer O g k ss)))

@@ -1,7 +1,7 @@
 -- How a source is read in the image, row by row.
 -- Assumes nothing.
 use Rattle.std.specs.Prelude.{Result, Ok, Err, None, Option, Some}
-use Rattle.std.specs.Result.{result_ok, result_unwrap_or}
+use Rattle.std.specs.Result.{result_ok}
 use mathlib.Core.Path.{◌≡◌, refl, sym, ap}
 use mathlib.Core.List.{List, ◌∷◌, ◌++◌}
 use Prim.Native.Nat.{ℕ, zero, suc, ◌+◌, ◌-◌, ◌≤◌}
@@ -19,13 +19,16 @@ use Rattle.wire.specs.Lists.{last_count}
 use Rattle.wire.specs.Reading.{Reads, ReadsPart, meant, part}
 use Rattle.wire.proofs.Readers.{read-end, read-stop}
 use Rattle.image.specs.FieldLayout.{name}
+use Rattle.image.specs.Rows.{RowsAt}
+use Rattle.image.specs.declared.rows.Rows.{Rows}
 use Rattle.image.specs.Under.{UnderName, under}
 use Rattle.image.specs.declared.name.Under.{Under}
 use Rattle.image.specs.declared.name.Under.TheVariants as U
 use Rattle.nodes.specs.Fields.{ReadsAs}
 use Rattle.nodes.proofs.Values.{reads_made}
-use Rattle.merge.specs.declared.source.Given.{Given as GivenParts}
-use Rattle.merge.specs.declared.source.Head.{Head}
+use Rattle.merge.specs.declared.source.Source.{Source}
+use Rattle.merge.specs.declared.read.Given.{Given as GivenParts}
+use Rattle.merge.specs.declared.read.Head.{Head}
 use Rattle.merge.specs.Sources.{Given, Decided, choice, decided, chosen_read, rows_if, rows_from, given_if, row_at, HeadOf, ListOf}
 use Rattle.wire.proofs.OneForm.{then-one}
 use Rattle.wire.proofs.NumberForms.{number_to-one}
@@ -50,7 +53,8 @@ module _ {V M : Type 0} {img : List ℕ} {p : List ℕ → Parsed M} {says : V �
 -- ---- a row
 
 -- what is read, and is a byte long at least, ends as far on as it is long
-read-on : {A : Type 0} (img : List ℕ) (c : Codec A) → OneForm c → (a : A) (p q : ℕ) → 1 ≤ length (c.write a) → q ≤ length img → c.read (drop p img) ≡ got a (drop q img)
+read-on : {A : Type 0} (img : List ℕ) (c : Codec A) → OneForm c → (a : A) (p q : ℕ) → 1 ≤ length (c.write a) → q ≤ length img
+    → c.read (drop p img) ≡ got a (drop q img)
     → q ≡ p + length (c.write a)
 read-on img c one a p q h w e = omega (arith, simp (length-drop, length-append) at (ap length (one.forth _ _ _ e).0))
 
@@ -79,10 +83,12 @@ module _ {img : List ℕ} {u : Under} {n p : ℕ} where
 
 module _ (img : List ℕ) (u : Under) (p start size : ℕ) where
   -- a row is the name and what stands under it
-  row-stop : {m : ℕ} {f : Fault} → Reads img name.read p (Ok (part img start size, m)) → Reads img (chosen_read u) m (Err f) → (name then under u).read (drop p img) ≡ fault f
+  row-stop : {m : ℕ} {f : Fault} → Reads img name.read p (Ok (part img start size, m)) → Reads img (chosen_read u) m (Err f)
+      → (name then under u).read (drop p img) ≡ fault f
   row-stop {m} {f} t v = rw t.same (go ((under u).read (drop m img)) v.same)
     where
-      go : (o : Parsed (UnderName u)) → bind o (λ a r. got (choice u a) r) ≡ fault f → bind {B = List ℕ × UnderName u} o (λ b q. got (part img start size, b) q) ≡ fault f
+      go : (o : Parsed (UnderName u)) → bind o (λ a r. got (choice u a) r) ≡ fault f
+          → bind {B = List ℕ × UnderName u} o (λ b q. got (part img start size, b) q) ≡ fault f
       go (fault g) e = cc
       go (got a r) e = never-got (sym e)
 
@@ -96,7 +102,8 @@ module _ (img : List ℕ) (u : Under) (p start size : ℕ) where
       go (got a r) d e = let z : r ≡ drop q img = cc in (a, cc, rw (t.same, d, z))
 
   -- the name stands after its length
-  name-start : {m : ℕ} → start + size ≤ length img → m ≡ start + size → Reads img name.read p (Ok (part img start size, m)) → start ≡ p + length (number_bytes (length (part img start size)))
+  name-start : {m : ℕ} → start + size ≤ length img → m ≡ start + size → Reads img name.read p (Ok (part img start size, m))
+      → start ≡ p + length (number_bytes (length (part img start size)))
   name-start {m} i e t =
       let k = part img start size in
       let z : m ≡ p + length (name.write k) = read-on img name name-one k p m (simp length-append (omega (arith, number-one (length k)))) t.within t.same in
@@ -129,20 +136,17 @@ module _ {img : List ℕ} {u : Under} {n p : ℕ} {o : Result (Part × ℕ) Faul
 
 -- ---- a list, its count first
 
-module _ {img : List ℕ} {u : Under} {p : ℕ} {o : Result (ℕ × ℕ) Fault} (h : Reads img (number_read last_count) p o) where
-  list-stop : {f : Fault} → o ≡ Err f → ListOf img u p (record { at = 0; left = 0; what = u })
-  unfolding rows_from
-  list-stop e = let z = (rw e at h).same in record { are = rw z }
-
-  list-rows : {n q : ℕ} → o ≡ Ok (n, q) → ListOf img u p (record { at = q; left = n; what = u })
-  list-rows {n} {q} e =
-      let g = rw e at h in
-      let z : q ≡ p + length (number_bytes n) = read-on img (number_to last_count refl) (number_to-one last_count refl) n p q (number-one n) g.within g.same in
-      record { are = rw (g.same, z) }
-
-  pub list-read : {x : ℕ × ℕ} → x ≡ result_unwrap_or o (0, 0) → ListOf img u p (record { at = x.1; left = x.0; what = u })
-  list-read e = rw e (go o refl)
-    where
-      go : (r : Result (ℕ × ℕ) Fault) → o ≡ r → ListOf img u p (record { at = (result_unwrap_or r (0, 0)).1; left = (result_unwrap_or r (0, 0)).0; what = u })
-      go (Ok x) d = list-rows d
-      go (Err f) d = list-stop d
+pub list-read : {img : List ℕ} {u : Under} {p : ℕ} {r : Rows} → RowsAt img last_count p r → (s : Source) → s.at ≡ r.first → s.left ≡ r.count → s.what ≡ u
+    → ListOf img u p s
+unfolding rows_from
+list-read {img} {u} {p} {r} h s i j k = record { are = rw (i, j, k) (go (number_read last_count (drop p img)) refl) }
+  where
+    go : (o : Parsed ℕ) → number_read last_count (drop p img) ≡ o
+        → rows_from img u r.count r.first ≡ rows_if o (λ n. rows_from img u n (p + length (number_bytes n)))
+    go (fault f) e = rw (h.uncounted f e).0
+    go (got n t) e =
+        let g = h.counted n t e in
+        let within = h.within in
+        let z : r.first ≡ p + length (number_bytes n) =
+        read-on img (number_to last_count refl) (number_to-one last_count refl) n p r.first (number-one n) within (rw (g.1) e) in
+        rw (g.0, z)

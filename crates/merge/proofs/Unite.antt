@@ -32,7 +32,8 @@ module _ {K : Type 0} (O : Order K) {A : Type 0} where
   least-says ([] ∷ ss) e h = let i = least-says ss e h in record { key = i.key; says = i.says }
   least-says ((u ∷ s) ∷ ss) e h = go (least O ss) refl h (least-says ss)
     where
-      go : (o : Option (K × Option A)) → least O ss ≡ o → upper O (Some u) o ≡ Some e → ((l : K × Option A) → least O ss ≡ Some l → Says ss l) → Says ((u ∷ s) ∷ ss) e
+      go : (o : Option (K × Option A)) → least O ss ≡ o → upper O (Some u) o ≡ Some e → ((l : K × Option A) → least O ss ≡ Some l → Says ss l)
+          → Says ((u ∷ s) ∷ ss) e
       go None g h ih = let z : u ≡ e = cc in rw (← z) (record { key = rw (none-key ss g); says = rw (O.self u.0) })
       go (Some l) g h ih = choice (O.cmp u.0 l.0) refl h (ih l g)
         where

@@ -7,10 +7,11 @@ use Rattle.image.specs.declared.name.Under.{Under}
 use Rattle.nodes.specs.Options.{text_at}
 use Rattle.rules.specs.Changes.{map_if}
 use Rattle.rules.specs.ReadCalls.{Row, row_of}
-use Rattle.merge.specs.Pile.{pass, pass_all, Ascend, upper, least, decisions}
-use Rattle.merge.specs.Sources.{Given, Decided, list_rows, source_rows, given_of, row_at, Inside}
+use Rattle.merge.specs.Pile.{pass, pass_all, upper, least, decisions}
+use Rattle.merge.specs.Sources.{Given, Decided, list_rows, source_rows, sources_of, Rise, given_of, row_at, Inside}
 use Rattle.merge.specs.declared.source.Source.{Source}
-use Rattle.merge.specs.declared.source.Head.{Head}
+use Rattle.merge.specs.declared.read.Head.{Head}
+use Rattle.merge.specs.declared.sources.Lists.{Lists}
 use Rattle.merge.specs.declared.sources.Sources.{Sources}
 use Rattle.merge.specs.declared.merge.AtMostTwo.{AtMostTwo}
 use Rattle.merge.specs.declared.merge.AtMostTwo.TheVariants as F
@@ -20,10 +21,6 @@ use Rattle.merge.specs.declared.merge.Merge.{Merge}
 -- the sources, the topmost first
 abbrev pub listed : Sources → List Source
 listed all = take all.count all.rows
-
--- the rows of each
-abbrev pub sources_of : List ℕ → List Source → List (List Decided)
-sources_of img l = map (source_rows img) l
 
 -- the list of a part, as a source
 abbrev pub lists_if : List ℕ → Under → Option Part → List (List Decided)
@@ -39,9 +36,13 @@ in_order (F.Two s t) = s ∷ (t ∷ [])
 abbrev pub rows_in : List ℕ → AtMostTwo → List (List Decided)
 rows_in img lists = sources_of img (in_order lists)
 
+-- the lists that were pushed, the topmost first
+abbrev pub lists_in : Lists → List Source
+lists_in all = take all.count all.rows
+
 -- lists more, beneath the others
-pub record Pushes (all : Sources) (lists : List Source) (r : Sources) : Type 0 where
-  pub are : listed r ≡ listed all ++ lists
+pub record Pushes (all : Lists) (lists : List Source) (r : Lists) : Type 0 where
+  pub are : lists_in r ≡ lists_in all ++ lists
   pub more : r.count ≡ all.count + length lists
 
 -- ---- the row that goes first
@@ -61,10 +62,6 @@ pub record PassedAll (img : List ℕ) (l : List Source) (name : Part) (r : List 
   pub are : sources_of img r ≡ pass_all by_bytes (text_at img name) (sources_of img l)
 
 -- ---- the rows, one after the other
-
--- each source rises
-pub record Ready (img : List ℕ) (l : List Source) : Type 0 where
-  pub ascend : Ascend by_bytes (sources_of img l)
 
 -- what the sources decide: the names that are given
 abbrev pub given_by : List ℕ → List Source → List (Text × (ℕ × Given))
@@ -89,18 +86,31 @@ abbrev pub with_first : {A B : Type 0} → (A → B) → Option A → List B →
 with_first f (Some a) l = f a ∷ l
 with_first f None l = []
 
--- what a first row gives, if there is one, and what the sources past it give
-abbrev pub gives_from : List ℕ → Option GivenRow → List Source → List (Text × (ℕ × Given))
-gives_from img first l = with_first (given_of_row img) first (given_by img l)
-
 -- the first name that is given, and the sources past it; or that no more is given
-pub record Gives (img : List ℕ) (l : List Source) (first : Option GivenRow) (rest : List Source) : Type 0 where
-  pub gives : given_by img l ≡ gives_from img first rest
+pub record GivesFrom (img : List ℕ) (l : List Source) (first : Option GivenRow) (rest : List Source) : Type 0 where
+  pub gives : given_by img l ≡ with_first (given_of_row img) first (given_by img rest)
   pub rows : decided_rows img l ≡ with_first row_of_given first (decided_rows img rest)
-  pub ready : Ready img rest
+  pub rise : Rise img rest
 
-abbrev pub Settles : List ℕ → Sources → Merge → Type 0
-Settles img all m = Gives img (listed all) m.first (listed m.all)
+-- ---- the same of the sources of an image
+
+abbrev pub given_in : Sources → List (Text × (ℕ × Given))
+given_in all = given_by all.img.now (listed all)
+
+abbrev pub rows_decided : Sources → List Row
+rows_decided all = decided_rows all.img.now (listed all)
+
+-- what a first row gives, if there is one, and what the sources past it give
+abbrev pub gives_from : Option GivenRow → Sources → List (Text × (ℕ × Given))
+gives_from first all = with_first (given_of_row all.img.now) first (given_in all)
+
+pub record Gives (all : Sources) (first : Option GivenRow) (rest : Sources) : Type 0 where
+  pub image : rest.img.now ≡ all.img.now
+  pub gives : given_in all ≡ gives_from first rest
+  pub rows : rows_decided all ≡ with_first row_of_given first (rows_decided rest)
+
+abbrev pub Settles : Sources → Merge → Type 0
+Settles all m = Gives all m.first m.all
 
 -- how many rows there are, if there is room for them
 abbrev pub count_of : ℕ → ℕ → Option ℕ

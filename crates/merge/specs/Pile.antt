@@ -1,10 +1,12 @@
 -- A pile of sources: rising rows of changes, the topmost first, each of which alters what stands beneath it by a rule g.
 -- Entries of a base, names that a delta removes and entries that it adds are such sources; so are records by inode.
 use Rattle.std.specs.Prelude.{List, [], ◌∷◌, ℕ, ◌+◌, length, None, Option, Some}
+use Rattle.std.specs.Coded.{×_prop, Unit-prop}
 use Rattle.std.specs.declared.cmp.Ordering.{Ordering}
 use Rattle.std.specs.declared.cmp.Ordering.TheVariants.{Less, Equal, Greater}
 use Rattle.wire.specs.Order.{Order}
 use Rattle.wire.specs.Rows.{choose, lookup, set, Rising}
+use Rattle.wire.specs.RowLaws.{Rising-prop}
 use Rattle.wire.specs.Maps.{Map, meet, merge, empty}
 
 module _ {K : Type 0} (O : Order K) where
@@ -46,6 +48,11 @@ module _ {K : Type 0} (O : Order K) {C : Type 0} where
   abbrev pub Ascend : List (List (K × C)) → Type 0
   Ascend [] = Unit {0}
   Ascend (s ∷ ss) = Rising O s × Ascend ss
+
+  -- which can be said in one way alone
+  pub Ascend-prop : (ss : List (List (K × C))) → IsProp (Ascend ss)
+  Ascend-prop [] = Unit-prop
+  Ascend-prop (s ∷ ss) = ×_prop (Rising-prop O s) (Ascend-prop ss)
 
   module _ {A : Type 0} (g : K → C → Option A → Option A) where
     -- a source over rows

@@ -1,8 +1,9 @@
 -- Lists by name as sources of a listing. Document 01: "From the bottom: tombstone clears, a directory delta removes then adds, other kinds
 -- do nothing." So the topmost list that has a name decides it: the name is given, with its start and an inode or a value, or removed.
-use Rattle.std.specs.Prelude.{◌≡◌, List, [], ◌∷◌, ◌++◌, ℕ, zero, suc, ◌+◌, ◌-◌, ◌≤◌, length, drop, IfSome, None, Option, Some}
+use Rattle.std.specs.Prelude.{◌≡◌, List, [], ◌∷◌, ◌++◌, map, ℕ, zero, suc, ◌+◌, ◌-◌, ◌≤◌, length, drop, IfSome, None, Option, Some}
 use Rattle.wire.specs.Parse.{Parsed, fault, got, bind}
 use Rattle.wire.specs.Combinators.{◌then◌}
+use Rattle.wire.specs.Orders.{by_bytes}
 use Rattle.wire.specs.Number.{number_bytes, number_read}
 use Rattle.wire.specs.Lists.{last_count}
 use Rattle.image.specs.Meaning.{Text}
@@ -12,9 +13,10 @@ use Rattle.image.specs.declared.name.Under.{Under}
 use Rattle.image.specs.declared.name.Under.TheVariants as U
 use Rattle.nodes.specs.Options.{text_at}
 use Rattle.rules.specs.Changes.{map_if}
+use Rattle.merge.specs.Pile.{Ascend, Ascend-prop}
 use Rattle.merge.specs.declared.source.Source.{Source}
-use Rattle.merge.specs.declared.source.Given.{Given as GivenParts}
-use Rattle.merge.specs.declared.source.Head.{Head}
+use Rattle.merge.specs.declared.read.Given.{Given as GivenParts}
+use Rattle.merge.specs.declared.read.Head.{Head}
 
 -- what a name is given: an inode; a value
 abbrev pub Given : Type 0
@@ -56,6 +58,21 @@ list_rows img u p = rows_if (number_read last_count (drop p img)) (λ n. rows_fr
 -- the rows of a source
 abbrev pub source_rows : List ℕ → Source → List Decided
 source_rows img s = rows_from img s.what s.left s.at
+
+-- the rows of each
+abbrev pub sources_of : List ℕ → List Source → List (List Decided)
+sources_of img l = map (source_rows img) l
+
+-- a list has no more rows than a count can say
+abbrev pub Short : List Decided → Type 0
+Short l = length l ≤ last_count
+
+-- the names of each rise
+abbrev pub Rise : List ℕ → List Source → Type 0
+Rise img l = Ascend by_bytes (sources_of img l)
+
+pub Rise-prop : (img : List ℕ) (l : List Source) → IsProp (Rise img l)
+Rise-prop img l = Ascend-prop by_bytes (sources_of img l)
 
 -- ---- what is read of a source
 

@@ -2,5 +2,6 @@
 #![tactic(auto)]
 
 pub mod merge;
+pub mod read;
 pub mod source;
 pub mod sources;

@@ -1,10 +1,13 @@
 // The merge of sources: the least name goes first, as the topmost source that has it says, and then the rest.
-ghost use Rattle.std.specs.Prelude.{◌+◌, ◌≤◌, ◌≡◌, [], ◌∷◌, length};
-ghost use Rattle.merge.specs.Merges.{in_order, Pushes, lists_if, rows_in, listed, Upper, Least, Passed, PassedAll};
-ghost use Rattle.merge.specs.Merges.{Ready, decided_rows, Gives, Settles, count_of};
+ghost use Rattle.std.specs.Prelude.{◌+◌, ◌≤◌, ◌≡◌, [], ◌∷◌, length, take};
+ghost use Rattle.std.specs.Iterator.{at_most};
+ghost use Rattle.merge.specs.Sources.{Rise};
+ghost use Rattle.merge.specs.Merges.{in_order, Pushes, lists_if, rows_in, Upper, Least, Passed, PassedAll};
+ghost use Rattle.merge.specs.Merges.{given_in, rows_decided, GivesFrom, Gives, Settles, count_of};
 
-use crate::source::{Given, Head, Source, head_of, source_at};
-use crate::sources::Sources;
+use crate::read::{Given, Head, head_of, source_at};
+use crate::source::Source;
+use crate::sources::{Lists, Sources};
 use image::name::Under;
 use std::cmp::Ordering;
 use wire::order::compare_part;
@@ -27,12 +30,12 @@ pub struct Row {
 
 // The first name that is given, if there is one, and the sources past it.
 #[derive(Clone, Copy)]
-pub struct Merge {
-    pub all: Sources,
+pub struct Merge<'a> {
     pub first: Option<Row>,
+    pub all: Sources<'a>,
 }
 
-pub fn no_sources() -> Sources
+pub fn no_lists() -> Lists
     ensures { result.count ≡ 0 }
 {
     let ended = Source {
@@ -40,14 +43,14 @@ pub fn no_sources() -> Sources
         left: 0,
         what: Under::Nothing,
     };
-    Sources {
+    Lists {
         rows: [ended; 35],
         count: 0,
     }
 }
 
-// One source more, beneath the others.
-fn push_source(all: &mut Sources, source: Source)
+// One list more, beneath the others.
+fn push_source(all: &mut Lists, source: Source)
     requires { all.old.count + 1 ≤ 35 }
     ensures { Pushes all.old (source ∷ []) all.new }
 {
@@ -56,7 +59,7 @@ fn push_source(all: &mut Sources, source: Source)
 }
 
 // Lists more, beneath the others.
-pub fn push_lists(all: &mut Sources, lists: AtMostTwo)
+pub fn push_lists(all: &mut Lists, lists: AtMostTwo)
     requires { all.old.count + length (in_order lists) ≤ 35 }
     ensures { Pushes all.old (in_order lists) all.new }
 {
@@ -102,8 +105,8 @@ fn least(img: &[u8], sources: &[Source]) -> Option<Head>
     ensures { Least img.now sources.now result }
 {
     let mut best = None;
-    for i in (0..sources.len()).rev() {
-        best = upper(img, head_of(img, sources[i]), best);
+    for source in sources.iter().rev() {
+        best = upper(img, head_of(img, *source), best);
     }
     best
 }
@@ -115,15 +118,14 @@ fn passed(img: &[u8], source: Source, name: Part) -> Source
     let Some(head) = head_of(img, source) else {
         return source;
     };
-    match compare_part(img, name, head.name.of(img)) {
-        Ordering::Less => source,
-        Ordering::Equal => Source {
+    if let Ordering::Equal = compare_part(img, name, head.name.of(img)) {
+        return Source {
             at: head.next,
             left: source.left - 1,
             what: source.what,
-        },
-        Ordering::Greater => source,
+        };
     }
+    source
 }
 
 // Moves each source past the name, if it is at it.
@@ -135,11 +137,12 @@ fn pass_all(img: &[u8], sources: &mut [Source], name: Part)
     }
 }
 
-// The first name that is given, if there is one; the sources are moved past it.
-pub fn next_given(img: &[u8], sources: &mut [Source]) -> Option<Row>
-    requires { Ready img.now sources.old }
-    ensures { Gives img.now sources.old result sources.new }
+// The first name that is given, if there is one; the sources, `count` of the rows, are moved past it.
+fn next_given(img: &[u8], rows: &mut [Source; 35], count: usize) -> Option<Row>
+    requires { (count ≤ 35) × Rise img.now (take count rows.old) }
+    ensures { GivesFrom img.now (take count rows.old) result (take count rows.new) }
 {
+    let sources = &mut rows[..count];
     while let Some(head) = least(img, sources) {
         pass_all(img, sources, head.name);
         if let Some(given) = head.given {
@@ -150,29 +153,34 @@ pub fn next_given(img: &[u8], sources: &mut [Source]) -> Option<Row>
     None
 }
 
-// The same by value.
-pub fn settle(img: &[u8], all: Sources) -> Merge
-    requires { Ready img.now (listed all) }
-    ensures { Settles img.now all result }
-{
-    let mut rows = all.rows;
-    let count = all.count;
-    let first = next_given(img, &mut rows[..count]);
-    Merge {
-        all: Sources { rows, count },
-        first,
+// The names that are given, one after the other.
+impl Iterator for Sources<'_> {
+    type Item = Row;
+
+    ghost next_gives = { Gives };
+
+    ghost remaining = { λ s. at_most (length (given_in s)) };
+
+    fn next(&mut self) -> Option<Row> {
+        next_given(self.img, &mut self.rows, self.count)
     }
 }
 
-// How many rows there are; none, if they are more than `room`.
-pub fn count_rows(img: &[u8], all: Sources, room: usize) -> Option<usize>
-    requires { Ready img.now (listed all) }
-    ensures { result ≡ count_of (length (decided_rows img.now (listed all))) room }
+// The first row apart from the others.
+pub fn settle(all: Sources) -> Merge
+    ensures { Settles all.entry result }
 {
-    let mut rows = all.rows;
-    let sources = &mut rows[..all.count];
+    let mut rest = all;
+    let first = rest.next();
+    Merge { first, all: rest }
+}
+
+// How many rows there are; none, if they are more than `room`.
+pub fn count_rows(all: Sources, room: usize) -> Option<usize>
+    ensures { result ≡ count_of (length (rows_decided all.entry)) room }
+{
     let mut count: usize = 0;
-    while let Some(_) = next_given(img, sources) {
+    for _row in all {
         if room <= count {
             return None;
         }

@@ -45,7 +45,8 @@ module _ {V M : Type 0} {img : List ℕ} (p : List ℕ → Parsed M) {says : V �
         let g = rw d at h in
         rw e (record { reads = read-then _ g.reads (read-end g.reads.within); holds = g.holds })
 
-    pub field-stop : {f : Fault} {r : Result (Option V × ℕ) Fault} → o ≡ Err f → r ≡ Err f → ReadsAs img (opt-read p bit) (option_map says) (holds_if Holds) at r
+    pub field-stop : {f : Fault} {r : Result (Option V × ℕ) Fault} → o ≡ Err f → r ≡ Err f → ReadsAs img (opt-read p bit) (option_map says) (holds_if Holds)
+        at r
     unfolding opt-read
     field-stop d k = let e : bit ≡ 1 = omega arith in let g = rw d at h in rw (e, k) (record { reads = read-stop _ g.reads; holds = tt })
 
@@ -67,20 +68,24 @@ pub reads_made : {A B : Type 0} {img : List ℕ} (p : List ℕ → Parsed A) (f 
 reads_made p f h = read-then _ h (read-end h.within)
 
 pub reads-pair : {A B : Type 0} {img : List ℕ} (p : List ℕ → Parsed A) (q : List ℕ → Parsed B) {at m n : ℕ} {a : A} {b : B}
-    → Reads img p at (Ok (a, m)) → Reads img q m (Ok (b, n)) → Reads {A = A × B} img (λ s. bind (p s) (λ a r. bind (q r) (λ b t. got (a, b) t))) at (Ok ((a, b), n))
+    → Reads img p at (Ok (a, m)) → Reads img q m (Ok (b, n)) → Reads {A = A × B} img (λ s. bind (p s) (λ a r. bind (q r) (λ b t. got (a, b) t))) at
+    (Ok ((a, b), n))
 reads-pair p q {a = a} h g = read-then _ h (reads_made q (λ b. (a, b)) g)
 
 -- a reader that says the same of all bytes
-pub reads_same : {A : Type 0} {img : List ℕ} {p q : List ℕ → Parsed A} {at : ℕ} {r : Result (A × ℕ) Fault} → ((s : List ℕ) → p s ≡ q s) → Reads img p at r → Reads img q at r
+pub reads_same : {A : Type 0} {img : List ℕ} {p q : List ℕ → Parsed A} {at : ℕ} {r : Result (A × ℕ) Fault} → ((s : List ℕ) → p s ≡ q s) → Reads img p at r →
+    Reads img q at r
 reads_same {img = img} {at = at} e h = record { same = sym (e (drop at img)) ∙ h.same; within = h.within }
 
 -- a value is made of the first field, which says what follows
-pub reads-tag : {A B C : Type 0} {img : List ℕ} (p : List ℕ → Parsed A) (k : A → List ℕ → Parsed B) (j : B → List ℕ → Parsed C) {at m : ℕ} {a : A} {r : Result (C × ℕ) Fault}
+pub reads-tag : {A B C : Type 0} {img : List ℕ} (p : List ℕ → Parsed A) (k : A → List ℕ → Parsed B) (j : B → List ℕ → Parsed C) {at m : ℕ} {a : A}
+    {r : Result (C × ℕ) Fault}
     → Reads img p at (Ok (a, m)) → Reads img (λ s. bind (k a s) j) m r → Reads img (λ s. bind (bind (p s) k) j) at r
 reads-tag p k j h g = reads_same (λ s. sym (bind-bind (p s) k j)) (read-then _ h g)
 
 -- where it stands before what follows
-pub reads_first : {A B C : Type 0} {img : List ℕ} (p : List ℕ → Parsed A) (q : List ℕ → Parsed B) (j : A × B → List ℕ → Parsed C) {at m : ℕ} {a : A} {r : Result (C × ℕ) Fault}
+pub reads_first : {A B C : Type 0} {img : List ℕ} (p : List ℕ → Parsed A) (q : List ℕ → Parsed B) (j : A × B → List ℕ → Parsed C) {at m : ℕ} {a : A}
+    {r : Result (C × ℕ) Fault}
     → Reads img p at (Ok (a, m)) → Reads img (λ s. bind (q s) (λ b t. j (a, b) t)) m r
     → Reads img (λ s. bind (bind (p s) (λ a r. bind (q r) (λ b t. got (a, b) t))) j) at r
 reads_first p q j {a = a} h g =

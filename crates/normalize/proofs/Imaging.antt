@@ -10,7 +10,6 @@ use native.Mathlib.Numerals.{add-one}
 use lib.ListN.{length, take, drop, get_or}
 use lib.Seq.{take-suc}
 use borrow.Author.Tests.{lt-ltb, le-ltb}
-use Rattle.std.specs.Result.{result_unwrap_or}
 use Rattle.wire.specs.declared.fault.Fault.{Fault}
 use Rattle.std.specs.declared.cmp.Ordering.{Ordering}
 use Rattle.std.specs.declared.cmp.Ordering.TheVariants.{Less, Equal, Greater}
@@ -29,6 +28,9 @@ use Rattle.image.specs.FieldLayout.{inode}
 use Rattle.image.specs.NodeLayout.{base}
 use Rattle.image.specs.RecordLayout.{layer_record, records}
 use Rattle.image.specs.StoreLayout.{batches}
+use Rattle.image.specs.Rows.{RowsAt}
+use Rattle.image.specs.declared.rows.Rows.{Rows}
+use Rattle.image.proofs.Listed.{rows-read}
 use Rattle.survey.specs.Gathering.{batch_head}
 use Rattle.image.specs.RoundTrip.{write_image}
 use Rattle.writers.specs.Tails.{tail}
@@ -39,7 +41,6 @@ use Rattle.rules.specs.Stacks.{stack, with_live, layers}
 use Rattle.rules.specs.Changes.{map_if}
 use Rattle.rules.specs.Normalise.{normal_layer, normal_batches, normal_live}
 use Rattle.rules.specs.ChangeCalls.{by_rules}
-use Rattle.walk.specs.Walks.{Ready}
 use Rattle.change.specs.Cuts.{rows_bytes}
 use Rattle.change.specs.Sections.{between, Spans, Stands, tail_of}
 use Rattle.change.specs.Changed.{Changes, Writes}
@@ -51,6 +52,8 @@ use Rattle.change.proofs.Cutting.{chain-rows}
 use Rattle.change.proofs.Finishing.{changes-refused, changes-made}
 use Rattle.change.proofs.Sections.{span-part, span-front, span-both, span-reads, value-is, stands-fits, store_bytes}
 use Rattle.change.proofs.Queued.{stands-count}
+use Rattle.walk.specs.declared.walk.Walk.{Walk}
+use Rattle.walk.specs.Ready.{Ready}
 use Rattle.walk.specs.Opens.{layer_bytes, layer_at, LayersOf, OpensLayers}
 use Rattle.walk.specs.declared.open.Layers.{Layers}
 use Rattle.walk.proofs.Opening.{count-layers, layer_fits, live-fits, layers-start}
@@ -108,14 +111,15 @@ normal-write ls b l = rw (normal-rows ls b l, map-length (normal_row b ls) l.row
 
 -- ---- the image written
 
-pub image-put : {img : List ℕ} {w : Layers} {old b₁ b₂ b₃ new : List ℕ} {q₁ q₂ q₃ r : ℕ} {o : Result (ℕ × ℕ) Fault} {x : ℕ × ℕ} → Reads img (number_read last_count) w.top o → x ≡ result_unwrap_or o (0, 0)
-    → Put old 0 (between img 0 w.top) q₁ b₁ → Put b₁ q₁ (number_bytes x.0) q₂ b₂ → PutsRows img w.walk b₂ q₂ q₃ b₃ → Put b₃ q₃ (between img w.end (length img)) r new
-    → PutsImage img w old r new
-image-put {img} {w} {o = o} {x} a e p q t v = record {
+pub image-put : {k : Walk} {w : Layers} {old b₁ b₂ b₃ new : List ℕ} {q₁ q₂ q₃ r : ℕ} {rows : Rows} → RowsAt k.img.now last_count w.top rows
+    → Put old 0 (between k.img.now 0 w.top) q₁ b₁ → Put b₁ q₁ (number_bytes rows.count) q₂ b₂ → PutsRows k b₂ q₂ q₃ b₃
+    → Put b₃ q₃ (between k.img.now w.end (length k.img.now)) r new → PutsImage k w old r new
+image-put {w} {rows = rows} a p q t v = record {
   puts = λ b ls l h.
       let nb = number_bytes (length l.rows) in
-      let z = span-reads (number_to last_count refl) {a = length l.rows} (span-front nb _ h.stands) (omega (arith, h.fits.count)) a in
-      let y : x.0 ≡ length l.rows = ap (λ (x : ℕ × ℕ). x.0) (value-is (0, 0) z e) in
+      let o = rows-read a in
+      let z = span-reads (number_to last_count refl) {a = length l.rows} (span-front nb _ h.stands) (omega (arith, h.fits.count)) o.1 in
+      let y : rows.count ≡ length l.rows = ap (λ (x : ℕ × ℕ). x.0) (value-is (0, 0) z o.2) in
       rw (normal-write ls b l, append_assoc) (put-append p (put-append (rw y at q) (put-append (t.puts b ls l h.over) v)));
 }
 
@@ -146,7 +150,8 @@ parts under b (x ∷ bs) live zero h =
     record {
       pre = head;
       old = four head (R x.records) (queue_bytes bs) (R live) ∙ ap (λ (t : List ℕ). head ++ (R x.records ++ t)) (sym (layers-start bs live));
-      new = four head (R (normal_layer under b x.records)) (queue_bytes bs) (R live) ∙ ap (λ (t : List ℕ). head ++ (R (normal_layer under b x.records) ++ t)) (sym (layers-start bs live))
+      new = four head (R (normal_layer under b x.records)) (queue_bytes bs) (R live)
+          ∙ ap (λ (t : List ℕ). head ++ (R (normal_layer under b x.records) ++ t)) (sym (layers-start bs live))
           ∙ ap (λ (u : List Layer). head ++ (R (normal_layer u b x.records) ++ layer_bytes bs live 0)) (sym (append-nil under));
     }
 parts under b (x ∷ bs) live (suc p) h =
@@ -154,10 +159,14 @@ parts under b (x ∷ bs) live (suc p) h =
     let l = get_or (with_live bs live) p (empty by_number) in
     record {
       pre = batch_bytes x ++ i.pre;
-      old = append_assoc (batch_bytes x) (queue_bytes bs) (R live) ∙ ap (λ (t : List ℕ). batch_bytes x ++ t) i.old ∙ sym (append_assoc (batch_bytes x) i.pre (R l ++ layer_bytes bs live (suc p)));
-      new = append_assoc (batch_bytes x) (queue_bytes (normal_batches (under ++ (x.records ∷ [])) b bs p)) (R (normal_live (under ++ (x.records ∷ [])) b bs p live))
+      old = append_assoc (batch_bytes x) (queue_bytes bs) (R live) ∙ ap (λ (t : List ℕ). batch_bytes x ++ t) i.old
+          ∙ sym (append_assoc (batch_bytes x) i.pre (R l ++ layer_bytes bs live (suc p)));
+      new =
+          append_assoc (batch_bytes x) (queue_bytes (normal_batches (under ++ (x.records ∷ [])) b bs p))
+          (R (normal_live (under ++ (x.records ∷ [])) b bs p live))
           ∙ ap (λ (t : List ℕ). batch_bytes x ++ t) i.new
-          ∙ ap (λ (u : List Layer). batch_bytes x ++ (i.pre ++ (R (normal_layer u b l) ++ layer_bytes bs live (suc p)))) (append_assoc under (x.records ∷ []) (take p (with_live bs live)))
+          ∙ ap (λ (u : List Layer). batch_bytes x ++ (i.pre ++ (R (normal_layer u b l) ++ layer_bytes bs live (suc p))))
+          (append_assoc under (x.records ∷ []) (take p (with_live bs live)))
           ∙ sym (append_assoc (batch_bytes x) i.pre (R (normal_layer (under ++ (x.records ∷ take p (with_live bs live))) b l) ++ layer_bytes bs live (suc p)));
     }
 
@@ -167,7 +176,8 @@ same_count under b [] p = refl
 same_count under b (x ∷ bs) zero = refl
 same_count under b (x ∷ bs) (suc p) = ap suc (same_count (under ++ (x.records ∷ [])) b bs p)
 
-module _ {img : List ℕ} {s : Store} {p : Sections} (w : Stands img p s) {n : ℕ} (h : n ≤ length s.batches) {top end : ℕ} (t : Spans img top (R (layer_at s n)) end)
+module _ {img : List ℕ} {s : Store} {p : Sections} (w : Stands img p s) {n : ℕ} (h : n ≤ length s.batches) {top end : ℕ}
+    (t : Spans img top (R (layer_at s n)) end)
     (u : Spans img end (layer_bytes s.batches s.live (suc n)) p.tail) where
   q : Parts [] s.base s.batches s.live n
   q = parts [] s.base s.batches s.live n h
@@ -179,26 +189,30 @@ module _ {img : List ℕ} {s : Store} {p : Sections} (w : Stands img p s) {n : �
   before : between img 0 top ≡ base.write s.base ++ (nb ++ q.pre)
   before =
       let x = span-both w.base (span-both w.batches w.live) in
-      let y : (base.write s.base ++ (batches.write s.batches ++ R s.live)) ≡ (base.write s.base ++ (nb ++ q.pre)) ++ (R (layer_at s n) ++ layer_bytes s.batches s.live (suc n)) =
+      let y : (base.write s.base ++ (batches.write s.batches ++ R s.live))
+      ≡ (base.write s.base ++ (nb ++ q.pre)) ++ (R (layer_at s n) ++ layer_bytes s.batches s.live (suc n)) =
       rw (batches-bytes s.batches, append_assoc nb (queue_bytes s.batches) (R s.live), q.old) (simp append_assoc) in
       let X = base.write s.base ++ (nb ++ q.pre) in
       let A = R (layer_at s n) in
       let B = layer_bytes s.batches s.live (suc n) in
       let D = drop p.tail img in
       between_is img 0 top X
-      (x.is ∙ ap (λ (r : List ℕ). r ++ D) y ∙ append_assoc X (A ++ B) D ∙ ap (λ (r : List ℕ). X ++ r) (append_assoc A B D ∙ sym (t.is ∙ ap (λ (r : List ℕ). A ++ r) u.is)))
+      (x.is ∙ ap (λ (r : List ℕ). r ++ D) y ∙ append_assoc X (A ++ B) D
+      ∙ ap (λ (r : List ℕ). X ++ r) (append_assoc A B D ∙ sym (t.is ∙ ap (λ (r : List ℕ). A ++ r) u.is)))
       (omega (arith, t.ends, t.within))
 
   -- all that stands after it
   after : between img end (length img) ≡ layer_bytes s.batches s.live (suc n) ++ tail.write (tail_of s)
   after = span-part (span-both u w.tail)
 
-  pub normal-image : between img 0 top ++ (R (normal_layer (take n (layers s)) s.base (layer_at s n)) ++ between img end (length img)) ≡ write_image (result usual (Call.normalise n) s)
+  pub normal-image : between img 0 top ++ (R (normal_layer (take n (layers s)) s.base (layer_at s n)) ++ between img end (length img))
+      ≡ write_image (result usual (Call.normalise n) s)
   unfolding result
   normal-image =
       let s2 = result usual (Call.normalise n) s in
       rw (before, after, store_bytes s2, batches-bytes (normal_batches [] s.base s.batches n), same_count [] s.base s.batches n)
-      (ends (base.write s.base) nb q.pre (R (normal_layer (take n (layers s)) s.base (layer_at s n))) (layer_bytes s.batches s.live (suc n)) (tail.write (tail_of s))
+      (ends (base.write s.base) nb q.pre (R (normal_layer (take n (layers s)) s.base (layer_at s n))) (layer_bytes s.batches s.live (suc n))
+      (tail.write (tail_of s))
       (queue_bytes (normal_batches [] s.base s.batches n)) (R (normal_live [] s.base s.batches n s.live)) q.new)
     where
       ends : (a c x l m z i j : List ℕ) → i ++ j ≡ x ++ (l ++ m) → (a ++ (c ++ x)) ++ (l ++ (m ++ z)) ≡ a ++ ((c ++ i) ++ (j ++ z))
@@ -208,7 +222,8 @@ module _ {img : List ℕ} {s : Store} {p : Sections} (w : Stands img p s) {n : �
 
 -- ---- the call
 
-module _ {img : List ℕ} {p : Sections} {s : Store} (w : Stands img p s) {o : Result (ℕ × ℕ) Fault} (a : Reads img (number_read 16) p.batches o) {y : ℕ × ℕ} (d : o ≡ Ok y) where
+module _ {img : List ℕ} {p : Sections} {s : Store} (w : Stands img p s) {o : Result (ℕ × ℕ) Fault} (a : Reads img (number_read 16) p.batches o) {y : ℕ × ℕ}
+    (d : o ≡ Ok y) where
   counted : y.0 ≡ length s.batches
   counted = stands-count w a d
 
@@ -220,31 +235,36 @@ module _ {img : List ℕ} {p : Sections} {s : Store} (w : Stands img p s) {o : R
   pub position-refused : {n : ℕ} → y.0 < n → {old : List ℕ} → Changes (by_rules usual (Call.normalise n) img (length old)) old (Err D.NoLayer) old
   position-refused {n} h = changes-refused (Call.normalise n) w (rw (lt-ltb (length s.batches) n (omega (arith, counted))))
 
-  module _ {n : ℕ} (h : n ≤ y.0) {l : Layers} (g : OpensLayers img p (n + 1) l) where
+  module _ {n : ℕ} (h : n ≤ y.0) where
     long : n + 1 ≤ length (layers s)
     long = omega (arith, counted, count-layers s.batches s.live)
 
-    opened : LayersOf img s p.tail (n + 1) l.walk l.top l.end
-    opened = g.opens s w long
+    module _ {l : Layers} (g : OpensLayers img p (n + 1) l) where
+      opened : LayersOf img s p.tail (n + 1) l
+      opened = g.opens s w long
 
-    pub layers-ready : Ready img l.walk
-    layers-ready = opened.over.ready
+      -- its runs are a walk's
+      pub position-ready : Ready img l.runs
+      position-ready = opened.ready
 
-    there : LayerAt img l s.base (take n (layers s)) (layer_at s n)
-    there =
-        let e : n + 1 - 1 ≡ n = omega arith in
-        let f = stands-fits w in
-        record {
-          over = rw (add-one, take-suc (layers s) n (empty by_number) (omega (arith, long))) at opened.over;
-          stands = rw e at (opened.top (omega arith));
-          fits = layer_fits s.batches s.live n f.batches.each (live-fits s f) (omega (arith, long));
-        }
+      layer-stands : Spans img l.top (R (layer_at s n)) l.end
+      layer-stands = let e : n + 1 - 1 ≡ n = omega arith in rw e at (opened.at.top (omega arith))
 
-    pub position-changed : {Puts : MutBor (List ℕ) → ℕ → MutBor (List ℕ) → Type 0} {old new : List ℕ} {x : Result ℕ Refusal} → Writes Puts old x new
-        → ((t : MutBor (List ℕ)) (q : ℕ) (u : MutBor (List ℕ)) → Puts t q u → PutsImage img l t.now q u.now)
-        → Changes (by_rules usual (Call.normalise n) img (length old)) old x new
-    position-changed v puts =
-        let under = take n (layers s) in
-        changes-made (Call.normalise n) w (rw (le-ltb (length s.batches) n (omega (arith, counted))))
-        (normal-image w (omega (arith, counted)) there.stands (rw add-one at opened.rest))
-        (v (normal_bytes img l s.base under (layer_at s n)) (λ t q u h. (puts t q u h).puts s.base under (layer_at s n) there))
+      module _ (k : Walk) (image : k.img.now ≡ img) (same : k.runs ≡ l.runs) where
+        there : LayerAt k l s.base (take n (layers s)) (layer_at s n)
+        there =
+            let f = stands-fits w in
+            record {
+              over = record { are = rw (image, same) (rw (add-one, take-suc (layers s) n (empty by_number) (omega (arith, long))) at opened.are) };
+              stands = rw image layer-stands;
+              fits = layer_fits s.batches s.live n f.batches.each (live-fits s f) (omega (arith, long));
+            }
+
+        pub position-changed : {Puts : MutBor (List ℕ) → ℕ → MutBor (List ℕ) → Type 0} {old new : List ℕ} {x : Result ℕ Refusal} → Writes Puts old x new
+            → ((t : MutBor (List ℕ)) (q : ℕ) (u : MutBor (List ℕ)) → Puts t q u → PutsImage k l t.now q u.now)
+            → Changes (by_rules usual (Call.normalise n) img (length old)) old x new
+        position-changed v puts =
+            let under = take n (layers s) in
+            changes-made (Call.normalise n) w (rw (le-ltb (length s.batches) n (omega (arith, counted))))
+            (rw image (normal-image w (omega (arith, counted)) layer-stands (rw add-one at opened.at.rest)))
+            (v (normal_bytes k l s.base under (layer_at s n)) (λ t q u h. (puts t q u h).puts s.base under (layer_at s n) there))

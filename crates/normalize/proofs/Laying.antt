@@ -27,7 +27,7 @@ use Rattle.rules.proofs.MapValues.{map_row}
 use Rattle.merge.specs.Pile.{pick_key, lower, least_key, head_if, pass, pass_all}
 use Rattle.change.specs.Cuts.{rows_bytes}
 use Rattle.walk.specs.Runs.{of_record, Row}
-use Rattle.walk.specs.Walks.{Pieces, top_of, sources_of, stacks_left, pieces_in, Ready, Steps}
+use Rattle.walk.specs.Walks.{Pieces, top_of, sources_of, stacks_left, pieces_in, Steps}
 use Rattle.walk.specs.Opens.{node_rows, Over}
 use Rattle.walk.specs.declared.walk.Step.{Step}
 use Rattle.walk.specs.declared.walk.Walk.{Walk}
@@ -46,17 +46,6 @@ module _ {t : Step} {old : List ℕ} {at : ℕ} where
     passed = λ x. absurd (let z : ◌≡◌ {A = ℕ} 0 1 = cc in omega arith);
     low = λ h. omega (arith, q.to);
     same = put-length q ∙ put-length p;
-  }
-
-  pub step-bare : t.stack.places.count ≤ 0 → t.top ≡ true → PutsStep t old at at old
-  step-bare h e = record { topped = λ x k. absurd (omega arith); passed = λ x. (refl, refl); low = λ h. h; same = refl }
-
-  pub step-passed : t.top ≡ false → PutsStep t old at at old
-  step-passed e = record {
-    topped = λ x h. absurd (let z : ◌≡◌ {A = ℕ} 0 1 = cc in omega arith);
-    passed = λ x. (refl, refl);
-    low = λ h. h;
-    same = refl;
   }
 
 -- ---- the rows of the topmost layer
@@ -106,16 +95,16 @@ module _ (b : Base) (ls : List Layer) (l : Layer) where
   Found e = get by_number e.0 l ≡ Some e.1
 
   -- the rows that are left of the layer
-  pub record RowsLeft (img old : List ℕ) (at : ℕ) (rest : Walk) (buf : List ℕ) (next : ℕ) : Type 0 where
+  pub record RowsLeft (old : List ℕ) (at : ℕ) (rest : Walk) (buf : List ℕ) (next : ℕ) : Type 0 where
     pub left : List (ℕ × Record)
-    pub tops : top_of (sources_of img rest) ≡ records left
+    pub tops : top_of (sources_of rest) ≡ records left
     pub found : Every Found left
-    pub each : Every (Is b (ls ++ (l ∷ []))) (stacks_left img rest)
+    pub each : Every (Is b (ls ++ (l ∷ []))) (stacks_left rest)
     pub put : (r : ℕ) (new : List ℕ) → Put buf next (bytes_of left) r new → Put old at (bytes_of l.rows) r new
 
-  rows_start : {img : List ℕ} {w : Walk} {old : List ℕ} {at : ℕ} → Over img b (ls ++ (l ∷ [])) w → RowsLeft img old at w old at
+  rows_start : {w : Walk} {old : List ℕ} {at : ℕ} → Over b (ls ++ (l ∷ [])) w → RowsLeft old at w old at
   unfolding get
-  rows_start {img} {w} o = record {
+  rows_start {w} o = record {
     left = l.rows;
     tops = ap top_of (o.are ∙ layers-snoc ls l (node_rows b ∷ []));
     found = every-found by_number Found l.rows l.rising (λ k a h. h);
@@ -128,39 +117,41 @@ module _ (b : Base) (ls : List Layer) (l : Layer) where
   unfolding stack_on
   stack_top k r p g i = i.pieces ∙ rw (stack-append, g)
 
-  module _ {img old : List ℕ} {at : ℕ} {rest : Walk} {buf : List ℕ} {next : ℕ} {step : Step} {after : Walk} (s : Steps img rest (Some step) after)
+  module _ {old : List ℕ} {at : ℕ} {rest : Walk} {buf : List ℕ} {next : ℕ} {step : Step} {after : Walk} (s : Steps rest (Some step) after)
       {out : List ℕ} {q : ℕ} (p : PutsStep step buf next q out) where
-    rows_next : RowsLeft img old at rest buf next → RowsLeft img old at after out q
+    rows_next : RowsLeft old at rest buf next → RowsLeft old at after out q
     unfolding pass rows_bytes
     rows_next w = go w.left w.tops w.found w.put
       where
         k : ℕ
         k = step.inode
 
-        all : Every (Is b (ls ++ (l ∷ []))) ((k, pieces_in step.stack) ∷ stacks_left img after)
+        all : Every (Is b (ls ++ (l ∷ []))) ((k, pieces_in step.stack) ∷ stacks_left after)
         all = rw s.stacks at w.each
 
-        rest-tops : top_of (sources_of img after) ≡ pass by_number k (top_of (sources_of img rest))
-        rest-tops = ap top_of s.taken.rest ∙ top-pass k (sources_of img rest)
+        rest-tops : top_of (sources_of after) ≡ pass by_number k (top_of (sources_of rest))
+        rest-tops = ap top_of s.taken.rest ∙ top-pass k (sources_of rest)
 
-        stays : (x : List (ℕ × Record)) → top_of (sources_of img rest) ≡ records x → Every Found x → ((r : ℕ) (new : List ℕ) → Put buf next (bytes_of x) r new → Put old at (bytes_of l.rows) r new)
-            → is_there (head_if by_number k (records x)) ≡ false → pass by_number k (records x) ≡ records x → RowsLeft img old at after out q
+        stays : (x : List (ℕ × Record)) → top_of (sources_of rest) ≡ records x → Every Found x
+            → ((r : ℕ) (new : List ℕ) → Put buf next (bytes_of x) r new → Put old at (bytes_of l.rows) r new)
+            → is_there (head_if by_number k (records x)) ≡ false → pass by_number k (records x) ≡ records x → RowsLeft old at after out q
         stays x t f u h v =
-            let y = p.passed (s.taken.top ∙ rw t h) in
+            let y = p.passed (s.taken.stack.top ∙ rw t h) in
             record { left = x; tops = rest-tops ∙ rw t v; found = f; each = all.1; put = λ r new z. u r new (rw (← y.0, ← y.1) z) }
 
-        go : (x : List (ℕ × Record)) → top_of (sources_of img rest) ≡ records x → Every Found x → ((r : ℕ) (new : List ℕ) → Put buf next (bytes_of x) r new → Put old at (bytes_of l.rows) r new)
-            → RowsLeft img old at after out q
+        go : (x : List (ℕ × Record)) → top_of (sources_of rest) ≡ records x → Every Found x
+            → ((r : ℕ) (new : List ℕ) → Put buf next (bytes_of x) r new → Put old at (bytes_of l.rows) r new)
+            → RowsLeft old at after out q
         go [] t f u = stays [] t f u refl refl
         go (e ∷ x) t f u = pick (cmp_n k e.0) refl
           where
-            pick : (d : Ordering) → cmp_n k e.0 ≡ d → RowsLeft img old at after out q
+            pick : (d : Ordering) → cmp_n k e.0 ≡ d → RowsLeft old at after out q
             pick Less c = stays (e ∷ x) t f u (rw c) (rw c)
             pick Greater c = stays (e ∷ x) t f u (rw c) (rw c)
             pick Equal c =
                 let z : k ≡ e.0 = same-N k e.0 c in
                 let i = stack_top k e.1 (pieces_in step.stack) (rw z f.0) all.0 in
-                let top : step.top ≡ true = s.taken.top ∙ rw (t, c) in
+                let top : step.top ≡ true = s.taken.stack.top ∙ rw (t, c) in
                 let y = p.topped top (some-count step.stack {r = e.1} {x = (stack k ls, get by_number k b)} i) in
                 record {
                   left = x;
@@ -172,39 +163,29 @@ module _ (b : Base) (ls : List Layer) (l : Layer) where
 
 -- ---- the loop
 
-pub record Laying (img : List ℕ) (w : Walk) (old : List ℕ) (at : ℕ) (rest : Walk) (buf : List ℕ) (next : ℕ) : Type 0 where
-  pub ready : Ready img rest
+pub record Laying (w : Walk) (old : List ℕ) (at : ℕ) (rest : Walk) (buf : List ℕ) (next : ℕ) : Type 0 where
   pub low : next ≤ edge
   pub same : length buf ≡ length old
   pub short : length old < edge
-  pub puts : (b : Base) (ls : List Layer) (l : Layer) → Over img b (ls ++ (l ∷ [])) w → RowsLeft b ls l img old at rest buf next
+  pub puts : (b : Base) (ls : List Layer) (l : Layer) → Over b (ls ++ (l ∷ [])) w → RowsLeft b ls l old at rest buf next
 
-pub laying-start : {img : List ℕ} {w : Walk} {old : List ℕ} {at : ℕ} → Ready img w → at ≤ edge → length old < edge → Laying img w old at w old at
-laying-start r a s = record { ready = r; low = a; same = refl; short = s; puts = λ b ls l o. rows_start b ls l o }
+pub laying-start : (w : Walk) {old : List ℕ} {at : ℕ} → at ≤ edge → length old < edge → Laying w old at w old at
+laying-start w a s = record { low = a; same = refl; short = s; puts = λ b ls l o. rows_start b ls l o }
 
-module _ {img : List ℕ} {w : Walk} {old : List ℕ} {at : ℕ} {rest : Walk} {buf : List ℕ} {next : ℕ} (g : Laying img w old at rest buf next)
-    {o : Option Step} {after : Walk} (s : Steps img rest o after) where
-  module _ {step : Step} (e : o ≡ Some step) where
-    here : Steps img rest (Some step) after
-    here = rw e at s
+module _ {w : Walk} {old : List ℕ} {at : ℕ} {rest : Walk} {buf : List ℕ} {next : ℕ} (g : Laying w old at rest buf next) {after : Walk} where
+  pub laying-more : {step : Step} → Steps rest (Some step) after → {out : List ℕ} {q : ℕ} → PutsStep step buf next q out → Laying w old at after out q
+  laying-more s p = record {
+    low = p.low g.low;
+    same = p.same ∙ g.same;
+    short = g.short;
+    puts = λ b ls l o. rows_next b ls l s p (g.puts b ls l o);
+  }
 
-    pub laying-less : length (stacks_left img after) < length (stacks_left img rest)
-    laying-less = rw here.stacks (omega arith)
-
-    pub laying-more : {out : List ℕ} {q : ℕ} → PutsStep step buf next q out → Laying img w old at after out q
-    laying-more p = record {
-      ready = here.ready;
-      low = p.low g.low;
-      same = p.same ∙ g.same;
-      short = g.short;
-      puts = λ b ls l o. rows_next b ls l here p (g.puts b ls l o);
-    }
-
-  pub laying-end : o ≡ None → PutsRows img w old at next buf
+  pub laying-end : Steps rest None after → PutsRows w old at next buf
   unfolding rows_bytes
-  laying-end e = record {
+  laying-end s = record {
     puts = λ b ls l o.
         let x = g.puts b ls l o in
-        let z : x.left ≡ [] = none-records x.left (sym x.tops ∙ top-end (sources_of img rest) (s.ended e)) in
+        let z : x.left ≡ [] = none-records x.left (sym x.tops ∙ top-end (sources_of rest) (s.ended refl)) in
         x.put next buf (rw z (record { to = omega (arith, g.low); is = refl; short = omega (arith, g.short, g.same) }));
   }

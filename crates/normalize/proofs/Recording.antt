@@ -36,7 +36,8 @@ use Rattle.deltas.specs.declared.delta.EntryDelta.TheVariants as E
 use Rattle.writers.proofs.Writing.{part-written}
 use Rattle.rules.specs.Reads.{child, type}
 use Rattle.rules.specs.Normalise.{normal_change, normal_directory}
-use Rattle.lookup.specs.Search.{IsList}
+use Rattle.lookup.specs.Lists.{IsList}
+use Rattle.lookup.proofs.Searching.{is-list}
 use Rattle.stack.specs.Stacks.{AllRead, Stacked, records_under, node_in, RecordIs}
 use Rattle.stack.specs.InStack.{shown_in}
 use Rattle.stack.specs.declared.stack.Stack.{Stack}
@@ -56,12 +57,16 @@ use Rattle.image.proofs.OneForm.{layer_record-one}
 
 -- bytes from one place to another
 pub between_is : (img : List ℕ) (place q : ℕ) (w : List ℕ) → drop place img ≡ w ++ drop q img → q ≤ length img → between img place q ≡ w
-between_is img place q w x h = rw x (take_at w (drop q img) (q - place) (omega (arith, ap length x, length-append w (drop q img), length-drop place img, length-drop q img)))
+between_is img place q w x h =
+    rw x
+    (take_at w (drop q img) (q - place)
+    (omega (arith, ap length x, length-append w (drop q img), length-drop place img, length-drop q img)))
 
 -- ---- a directory delta
 
 directory-bytes : (f : Fields) (p : Option ℕ) (a : Entries) (r : Names)
-    → layer_record.write (delta (record { fields = f; change = directory p a r })) ≡ (code.write (Some Kind.directory) ++ (fields.write f ++ (maybe inode).write p)) ++ (entries.write a ++ names.write r)
+    → layer_record.write (delta (record { fields = f; change = directory p a r }))
+    ≡ (code.write (Some Kind.directory) ++ (fields.write f ++ (maybe inode).write p)) ++ (entries.write a ++ names.write r)
 unfolding layer_record
 directory-bytes f p a r = simp append_assoc
 
@@ -92,17 +97,21 @@ module _ (s : Stack) {place : ℕ} {d : DirectoryDelta} (g : RecordIs s.img.now 
   front_bytes =
       let e = entries.write a ++ (names.write r ++ drop g.end s.img.now) in
       let x : drop place s.img.now ≡ front ++ e =
-      (layer_record-one.forth _ _ _ g.reads.reads.same).0 ∙ ap (λ (t : List ℕ). t ++ drop g.end s.img.now) (directory-bytes f p a r) ∙ append_assoc front (entries.write a ++ names.write r) (drop g.end s.img.now)
+      (layer_record-one.forth _ _ _ g.reads.reads.same).0 ∙ ap (λ (t : List ℕ). t ++ drop g.end s.img.now) (directory-bytes f p a r)
+      ∙ append_assoc front (entries.write a ++ names.write r) (drop g.end s.img.now)
       ∙ ap (λ (t : List ℕ). front ++ t) (append_assoc (entries.write a) (names.write r) (drop g.end s.img.now)) in
       let y : drop d.added.start s.img.now ≡ e =
-      ((by_name-one U.Inode).forth _ _ _ added-listed.is).0 ∙ ap (λ (t : List ℕ). entries.write a ++ t) ((by_name-one U.Nothing).forth _ _ _ removed-listed.is).0 in
+      ((by_name-one U.Inode).forth _ _ _ added-listed.is).0
+      ∙ ap (λ (t : List ℕ). entries.write a ++ t) ((by_name-one U.Nothing).forth _ _ _ removed-listed.is).0 in
       between_is s.img.now place d.added.start front (x ∙ ap (λ (t : List ℕ). front ++ t) (sym y)) (omega (arith, added-listed.ends, added-listed.inside))
 
   entries-bytes : between s.img.now d.added.start d.removed.start ≡ entries.write a
-  entries-bytes = part-written (by_name U.Inode) (by_name-one U.Inode) (omega (arith, added-listed.ends, added-listed.inside)) (record { same = added-listed.is; within = added-listed.inside })
+  entries-bytes =
+      part-written (by_name U.Inode) (by_name-one U.Inode) (omega (arith, added-listed.ends, added-listed.inside))
+      (record { same = added-listed.is; within = added-listed.inside })
 
   pub lists-there : IsList s.img.now U.Inode d.added × IsList s.img.now U.Nothing d.removed
-  lists-there = ((d.removed.start, added-listed), (g.end, removed-listed))
+  lists-there = (is-list added-listed, is-list removed-listed)
 
   abbrev Normal : List ℕ → ℕ → ℕ → List ℕ → Option Kind → Type 0
   Normal old at q new k =
@@ -111,13 +120,13 @@ module _ (s : Stack) {place : ℕ} {d : DirectoryDelta} (g : RecordIs s.img.now 
 
   module _ {old b₁ b₂ new : List ℕ} {at q₁ q₂ q₃ : ℕ} (h : Put old at (between s.img.now place d.added.start) q₁ b₁) where
     -- "else it drops added names that lead to the same inode below and removed names that lead to none"
-    pub normal-directory : {all : Sources} (m : Merge) → Leads s all → Settles s.img.now all m → is_directory (shown_in type s) ≡ true
-        → Put b₁ q₁ ((by_name U.Inode).write (kept_map U.Inode (leads_in s.img.now m) a)) q₂ b₂
-        → Put b₂ q₂ ((by_name U.Nothing).write (kept_map U.Nothing (leads_in s.img.now m) r)) q₃ new
+    pub normal-directory : {all : Sources} (m : Merge) → Leads s all → Settles all m → is_directory (shown_in type s) ≡ true
+        → Put b₁ q₁ ((by_name U.Inode).write (kept_map U.Inode (leads_in m) a)) q₂ b₂
+        → Put b₂ q₂ ((by_name U.Nothing).write (kept_map U.Nothing (leads_in m) r)) q₃ new
         → Put old at (layer_record.write (normal_in s (entry_meant s.img.now (E.Node (D.Directory d))))) q₃ new
     normal-directory {all} m l t e u v = go (shown_in type s) e
       where
-        same : leads_in s.img.now m ≡ (λ name. shown_in (child name) s)
+        same : leads_in m ≡ (λ name. shown_in (child name) s)
         same = fun_ext (λ name. rw (← t.gives) (l.leads name))
 
         there : Normal old at q₃ new (Some directory)
@@ -166,11 +175,13 @@ other-normal img (D.Socket d) h B k = refl
 
 -- ---- a record as it stands
 
-pub copied : {img : List ℕ} {place : ℕ} {o : Result ℕ Fault} {q : ℕ} → Ends img layer_record.read place o → q ≡ result_unwrap_or o 0 → {old new : List ℕ} {at r : ℕ}
+pub copied : {img : List ℕ} {place : ℕ} {o : Result ℕ Fault} {q : ℕ} → Ends img layer_record.read place o
+    → q ≡ result_unwrap_or o 0 → {old new : List ℕ} {at r : ℕ}
     → Put old at (between img place q) r new → Copies img place old at r new
 copied {img} {place} {o} {q} h e {old} {new} {at} {r} p = record { copies = λ x g. go o h e x g }
   where
-    go : (o : Result ℕ Fault) → Ends img layer_record.read place o → q ≡ result_unwrap_or o 0 → (x : EntryDelta) → RecordIs img place x → Put old at (layer_record.write (entry_meant img x)) r new
+    go : (o : Result ℕ Fault) → Ends img layer_record.read place o → q ≡ result_unwrap_or o 0 → (x : EntryDelta)
+        → RecordIs img place x → Put old at (layer_record.write (entry_meant img x)) r new
     go (Err f) h e x g = never-got (sym (ends-fault h) ∙ g.reads.reads.same)
     go (Ok n) h e x g =
         let y = ends-got h in

@@ -30,5 +30,5 @@ pub record PutsStep (t : Step) (old : List ℕ) (at r : ℕ) (new : List ℕ) : 
   pub same : length new ≡ length old
 
 -- the records of the topmost layer
-pub record PutsRows (img : List ℕ) (w : Walk) (old : List ℕ) (at r : ℕ) (new : List ℕ) : Type 0 where
-  pub puts : (b : Base) (ls : List Layer) (l : Layer) → Over img b (ls ++ (l ∷ [])) w → Put old at (rows_bytes inode layer_record (normal_rows b ls l.rows)) r new
+pub record PutsRows (w : Walk) (old : List ℕ) (at r : ℕ) (new : List ℕ) : Type 0 where
+  pub puts : (b : Base) (ls : List Layer) (l : Layer) → Over b (ls ++ (l ∷ [])) w → Put old at (rows_bytes inode layer_record (normal_rows b ls l.rows)) r new

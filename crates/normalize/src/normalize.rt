@@ -3,7 +3,6 @@ ghost use Rattle.std.specs.Prelude.{length};
 ghost use Rattle.rules.specs.Initial.{usual};
 ghost use Rattle.rules.specs.ChangeCalls.{normalize_directory_deltas};
 ghost use Rattle.change.specs.Changed.{Changes};
-ghost use Rattle.walk.specs.Walks.{Ready};
 ghost use Rattle.normalize.specs.Images.{PutsImage};
 
 use crate::layer::put_normal_rows;
@@ -11,8 +10,10 @@ use change::copy::put_between;
 use change::room::write_if_room;
 use change::section::open_sections;
 use image::field::LAST_WORD;
+use image::rows::rows_at;
 use survey::refusal::Refusal;
 use walk::open::{Layers, open_layers};
+use walk::walk::Walk;
 use wire::number::{put_number, read_number};
 
 // Holds each directory delta of the layer at a position against the layers below. Live is at the number of batches.
@@ -29,17 +30,18 @@ pub fn normalize_directory_deltas(
         return Err(Refusal::NoLayer);
     }
     let layers = open_layers(img, sections, position + 1);
-    write_if_room(target, |buf| put_normal(buf, img, layers))
+    let walk = layers.walk(img);
+    write_if_room(target, |buf| put_normal(buf, &walk, &layers))
 }
 
 // The image, with its topmost layer of the walk normalised: all before and after its records is copied.
-fn put_normal(buf: &mut [u8], img: &[u8], layers: Layers) -> usize
-    requires { Ready img.now layers.walk }
-    ensures { PutsImage img.now layers buf.old result buf.new }
+fn put_normal(buf: &mut [u8], walk: &Walk, layers: &Layers) -> usize
+    ensures { PutsImage walk.entry.now layers.now buf.old result buf.new }
 {
-    let (count, _) = read_number(img, layers.top, LAST_WORD).unwrap_or((0, 0));
+    let img = walk.img;
+    let rows = rows_at(img, layers.top, LAST_WORD);
     let counted = put_between(buf, 0, img, 0, layers.top);
-    let first = put_number(buf, counted, count);
-    let next = put_normal_rows(buf, first, img, layers.walk);
+    let first = put_number(buf, counted, rows.count);
+    let next = put_normal_rows(buf, first, walk);
     put_between(buf, next, img, layers.end, img.len())
 }

@@ -15,6 +15,7 @@ use image::kind::FileType;
 use image::name::Under;
 use keep::below::names_in;
 use keep::keep::put_kept_list;
+use lookup::list::NameList;
 use merge::merge::settle;
 use passes::record::pass_record;
 use stack::file_type::Type;
@@ -45,12 +46,22 @@ fn put_normal_directory(
     let head = put_between(buf, at, img, place, added.start);
     let found = decided(below, &Type);
     if is_directory(found) {
-        let merge = settle(img, names_in(below));
-        let next = put_kept_list(buf, head, img, added, Under::Inode, merge);
-        return put_kept_list(buf, next, img, removed, Under::Nothing, merge);
+        let merge = settle(names_in(below));
+        let entries = NameList {
+            img,
+            place: added,
+            what: Under::Inode,
+        };
+        let names = NameList {
+            img,
+            place: removed,
+            what: Under::Nothing,
+        };
+        let next = put_kept_list(buf, head, entries, &merge);
+        return put_kept_list(buf, next, names, &merge);
     }
-    let names = put_between(buf, head, img, added.start, removed.start);
-    put_number(buf, names, 0)
+    let next = put_between(buf, head, img, added.start, removed.start);
+    put_number(buf, next, 0)
 }
 
 // Writes a record as it stands.

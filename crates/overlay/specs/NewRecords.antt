@@ -1,5 +1,5 @@
 -- Images with other live records: parts of the old image, and what is new.
-use Rattle.std.specs.Prelude.{Result, true, cond, List, [], ◌∷◌, ◌++◌, ℕ, suc, leb, eqb, length}
+use Rattle.std.specs.Prelude.{Result, true, List, [], ◌∷◌, ◌++◌, ℕ, suc, length}
 use Rattle.wire.specs.Number.{number_bytes}
 use Rattle.wire.specs.Put.{Put}
 use Rattle.image.specs.Masks.{maybe}
@@ -19,6 +19,7 @@ use Rattle.survey.specs.declared.refusal.Refusal.{Refusal}
 use Rattle.change.specs.declared.section.Sections.{Sections}
 use Rattle.change.specs.declared.cut.Cut.{Cut}
 use Rattle.overlay.specs.NewLists.{list_bytes}
+use Rattle.overlay.specs.declared.list.Copied.{Copied}
 use Rattle.overlay.specs.declared.record.NewDirectory.{NewDirectory}
 use Rattle.overlay.specs.declared.record.NewChange.{NewChange}
 use Rattle.overlay.specs.declared.record.NewChange.TheVariants as C
@@ -29,7 +30,6 @@ use Rattle.overlay.specs.declared.record.Edit.{Edit}
 use Rattle.overlay.specs.declared.record.Lead.{Lead}
 use Rattle.overlay.specs.declared.record.Lead.TheVariants as D
 use Rattle.overlay.specs.declared.write.NewLive.{NewLive}
-use Rattle.overlay.specs.declared.write.NewRecords.{NewRecords}
 
 -- what a delta of this kind has after its fields, if it changes nothing: of a directory no parent and two empty lists, else one 0
 abbrev pub bare_bytes : FileType → List ℕ
@@ -87,32 +87,26 @@ module _ (img given newName : List ℕ) where
   edited_image (D.Behind first) es = spliced img first (record_pieces es) (length img)
 
 -- and it is put
-abbrev pub Puts : List ℕ → ℕ → List ℕ → List ℕ → List ℕ → Lead → List Edit → ℕ → List ℕ → Type 0
-Puts old at img given newName lead es next new = Put old at (edited_image img given newName lead es) next new
+abbrev pub Puts : List ℕ → ℕ → Copied → Lead → List Edit → ℕ → List ℕ → Type 0
+Puts old at c lead es next new = Put old at (edited_image c.img.now c.given.now c.new_name.now lead es) next new
 
 -- base and batches as they are, another count of live records, these from `first` on
 abbrev pub lead_in : Sections → ℕ → ℕ → Lead
 lead_in p count first = D.Head (record { live = p.live; count = count; first = first })
 
--- up to four, the least inode first
-abbrev pub edits_of : NewRecords → List Edit
-edits_of n =
-    cond (leb n.number 1) (n.one ∷ [])
-    (cond (eqb n.number 2) (n.one ∷ (n.two ∷ []))
-    (cond (eqb n.number 3) (n.one ∷ (n.two ∷ (n.three ∷ []))) (n.one ∷ (n.two ∷ (n.three ∷ (n.four ∷ []))))))
+-- with one record changed, and others behind it
+abbrev pub new_image : List ℕ → List ℕ → List ℕ → Sections → NewLive → List Edit → List ℕ
+new_image img given newName p n es = edited_image img given newName (lead_in p n.count n.first) (n.edit ∷ es)
 
 abbrev pub one_image : List ℕ → List ℕ → List ℕ → Sections → NewLive → List ℕ
-one_image img given newName p n = edited_image img given newName (lead_in p n.count n.first) (n.edit ∷ [])
-
-abbrev pub new_image : List ℕ → List ℕ → List ℕ → Sections → NewRecords → List ℕ
-new_image img given newName p n = edited_image img given newName (lead_in p n.count n.first) (edits_of n)
+one_image img given newName p n = new_image img given newName p n []
 
 -- the new image is written to the target, or there is no room and nothing is
-abbrev pub WritesOne : List ℕ → List ℕ → List ℕ → Sections → NewLive → List ℕ → Result ℕ Refusal → List ℕ → Type 0
-WritesOne img given newName p n old r new = Changes (if_fits (one_image img given newName p n) (length old)) old r new
+abbrev pub WritesAll : Copied → Sections → NewLive → List Edit → List ℕ → Result ℕ Refusal → List ℕ → Type 0
+WritesAll c p n es old r new = Changes (if_fits (new_image c.img.now c.given.now c.new_name.now p n es) (length old)) old r new
 
-abbrev pub WritesAll : List ℕ → List ℕ → List ℕ → Sections → NewRecords → List ℕ → Result ℕ Refusal → List ℕ → Type 0
-WritesAll img given newName p n old r new = Changes (if_fits (new_image img given newName p n) (length old)) old r new
+abbrev pub WritesOne : Copied → Sections → NewLive → List ℕ → Result ℕ Refusal → List ℕ → Type 0
+WritesOne c p n old r new = WritesAll c p n [] old r new
 
 -- another record of the inode where the records are cut
 abbrev pub edit_at : Cut → ℕ → NewRecord → Edit

@@ -9,6 +9,15 @@ use wire::part::Part;
 use wire::put::put_part;
 use wire::text::put_text;
 
+// What a new image is copied from: the old one; what was given, a record or the name of a row that is a name alone; the name of an entry,
+// which is another only in a rename.
+#[derive(Clone, Copy)]
+pub struct Copied<'a> {
+    pub img: &'a [u8],
+    pub given: &'a [u8],
+    pub new_name: &'a [u8],
+}
+
 // The row of a name, afterwards.
 #[derive(Clone, Copy)]
 pub enum NewRow {
@@ -60,55 +69,42 @@ pub fn kept(list: Option<Part>) -> NewList
 }
 
 // The row of a name, if it has one.
-fn put_row(buf: &mut [u8], at: usize, given: &[u8], new_name: &[u8], new: NewRow) -> usize
-    ensures { Put buf.old at (row_bytes given.now new_name.now new) result buf.new }
+fn put_row(buf: &mut [u8], at: usize, copied: Copied, new: NewRow) -> usize
+    ensures { Put buf.old at (row_bytes copied.entry.given.now copied.entry.new_name.now new) result buf.new }
 {
     match new {
         NewRow::Absent => at,
-        NewRow::Name => put_text(buf, at, given),
+        NewRow::Name => put_text(buf, at, copied.given),
         NewRow::Entry(inode) => {
-            let next = put_text(buf, at, new_name);
+            let next = put_text(buf, at, copied.new_name);
             put_number(buf, next, inode)
         }
     }
 }
 
 // The rows of a list in which one row changes, their count first.
-fn put_rows(
-    buf: &mut [u8],
-    at: usize,
-    img: &[u8],
-    given: &[u8],
-    new_name: &[u8],
-    rows: NewRows,
-) -> usize
-    ensures { Put buf.old at (changed_bytes img.now given.now new_name.now rows) result buf.new }
+fn put_rows(buf: &mut [u8], at: usize, copied: Copied, rows: NewRows) -> usize
+    ensures { Put buf.old at (changed_bytes copied.entry.img.now copied.entry.given.now copied.entry.new_name.now rows) result buf.new }
 {
     let new = rows.new;
     let lower = rows.lower;
     let upper = rows.upper;
+    let img = copied.img;
     let first = put_number(buf, at, rows.count);
     let below = put_between(buf, first, img, rows.first, lower.start);
     let row = put_between(buf, below, img, lower.end, rows.row);
-    let after = put_row(buf, row, given, new_name, new);
+    let after = put_row(buf, row, copied, new);
     let above = put_between(buf, after, img, rows.after, upper.start);
     put_between(buf, above, img, upper.end, rows.end)
 }
 
 // A list, its count first.
-pub fn put_list(
-    buf: &mut [u8],
-    at: usize,
-    img: &[u8],
-    given: &[u8],
-    new_name: &[u8],
-    list: NewList,
-) -> usize
-    ensures { Put buf.old at (list_bytes img.now given.now new_name.now list) result buf.new }
+pub fn put_list(buf: &mut [u8], at: usize, copied: Copied, list: NewList) -> usize
+    ensures { Put buf.old at (list_bytes copied.entry.img.now copied.entry.given.now copied.entry.new_name.now list) result buf.new }
 {
     match list {
         NewList::Empty => put_number(buf, at, 0),
-        NewList::Kept(part) => put_part(buf, at, img, part),
-        NewList::Changed(rows) => put_rows(buf, at, img, given, new_name, rows),
+        NewList::Kept(part) => put_part(buf, at, copied.img, part),
+        NewList::Changed(rows) => put_rows(buf, at, copied, rows),
     }
 }

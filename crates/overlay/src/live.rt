@@ -5,9 +5,10 @@ ghost use Rattle.rules.specs.Refusals.{no_delta};
 ghost use Rattle.rules.specs.ChangeCalls.{given_record, insert_new_node, tombstone as tombstoned};
 ghost use Rattle.change.specs.Changed.{Changes};
 
+use crate::list::Copied;
 use crate::record::NewRecord;
 use crate::write::{replaced, write_record};
-use change::cut::cut_records;
+use change::cut::{RecordOf, cut_at};
 use change::section::open_sections;
 use deltas::delta::{EntryDelta, read_entry_delta};
 use survey::refusal::Refusal;
@@ -25,9 +26,14 @@ pub fn insert_new_node(
     if no_delta(delta) {
         return Err(Refusal::BadArgument);
     }
-    let cut = cut_records(img, sections.live, ino);
+    let cut = cut_at(img, sections.live, &RecordOf { ino });
     let new = replaced(cut, ino, NewRecord::Given);
-    write_record(img, delta, delta, sections, new, target)
+    let copied = Copied {
+        img,
+        given: delta,
+        new_name: delta,
+    };
+    write_record(copied, sections, new, target)
 }
 
 // Replaces the live record by a tombstone.
@@ -35,9 +41,14 @@ pub fn tombstone(img: &[u8], ino: u64, target: &mut [u8]) -> Result<usize, Refus
     ensures { Changes (tombstoned usual img.now ino (length target.old)) target.old result target.new }
 {
     let sections = open_sections(img)?;
-    let cut = cut_records(img, sections.live, ino);
+    let cut = cut_at(img, sections.live, &RecordOf { ino });
     let new = replaced(cut, ino, NewRecord::Tombstone);
-    write_record(img, img, img, sections, new, target)
+    let copied = Copied {
+        img,
+        given: img,
+        new_name: img,
+    };
+    write_record(copied, sections, new, target)
 }
 
 // Whether these are not the bytes of one delta, and no more.

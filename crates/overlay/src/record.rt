@@ -5,7 +5,7 @@ ghost use Rattle.wire.specs.Combinators.{opt_write};
 ghost use Rattle.image.specs.FieldLayout.{inode as inodeCodec};
 ghost use Rattle.overlay.specs.NewRecords.{directory_bytes, bare_bytes, change_bytes, updated_bytes, lead_bytes, edit_bytes};
 
-use crate::list::{NewList, put_list};
+use crate::list::{Copied, NewList, put_list};
 use change::copy::put_between;
 use image::field::Inode;
 use image::kind::FileType;
@@ -84,28 +84,21 @@ pub struct Head {
 }
 
 // A directory delta, from its code on.
-fn put_directory(
-    buf: &mut [u8],
-    at: usize,
-    img: &[u8],
-    given: &[u8],
-    new_name: &[u8],
-    directory: NewDirectory,
-) -> usize
-    ensures { Put buf.old at (directory_bytes img.now given.now new_name.now directory)
-        result buf.new }
+fn put_directory(buf: &mut [u8], at: usize, copied: Copied, directory: NewDirectory) -> usize
+    ensures { Put buf.old at (directory_bytes copied.entry.img.now copied.entry.given.now copied.entry.new_name.now directory) result buf.new }
 {
     let attr_delta = directory.attr_delta;
     let xattrs = attr_delta.xattrs;
     let parent = directory.parent;
     let added = directory.added;
     let removed = directory.removed;
+    let img = copied.img;
     let fields = put_number(buf, at, 1);
     let list = put_attr_delta(buf, fields, attr_delta);
     let change = put_list_if(buf, list, img, xattrs);
     let entries = put_maybe::<Inode>(buf, change, img, parent);
-    let names = put_list(buf, entries, img, given, new_name, added);
-    put_list(buf, names, img, given, new_name, removed)
+    let names = put_list(buf, entries, copied, added);
+    put_list(buf, names, copied, removed)
 }
 
 // A change by kind that changes nothing: of a directory no parent and two empty lists, else one 0.
@@ -193,17 +186,11 @@ fn put_row_start(
 }
 
 // What comes before a record, and the record. It is matched before anything is written: what is read of it later has to be copied first.
-pub fn put_edit(
-    buf: &mut [u8],
-    at: usize,
-    img: &[u8],
-    given: &[u8],
-    new_name: &[u8],
-    lead: Lead,
-    edit: Edit,
-) -> usize
-    ensures { Put buf.old at (edit_bytes img.now given.now new_name.now lead edit) result buf.new }
+pub fn put_edit(buf: &mut [u8], at: usize, copied: Copied, lead: Lead, edit: &Edit) -> usize
+    ensures { Put buf.old at (edit_bytes copied.entry.img.now copied.entry.given.now copied.entry.new_name.now lead edit.now) result buf.new }
 {
+    let img = copied.img;
+    let given = copied.given;
     let new = edit.new;
     let inode = Some(edit.inode);
     match new {
@@ -221,7 +208,7 @@ pub fn put_edit(
         }
         NewRecord::Directory(directory) => {
             let code = put_row_start(buf, at, img, lead, edit.row, inode);
-            put_directory(buf, code, img, given, new_name, directory)
+            put_directory(buf, code, copied, directory)
         }
         NewRecord::Updated(updated) => {
             let code = put_row_start(buf, at, img, lead, edit.row, inode);

@@ -1,9 +1,10 @@
-// The one writer of images with other live records: one that changes, or up to four. Everything else is copied from the old image.
-ghost use Rattle.std.specs.Prelude.{◌≤◌, [], ◌∷◌, ◌≡◌};
+// The one writer of images with other live records: one that changes, or several. Everything else is copied from the old image.
+ghost use Rattle.std.specs.Prelude.{◌≤◌, ◌∷◌, ◌≡◌};
 ghost use Rattle.wire.specs.Lists.{last_count};
 ghost use Rattle.wire.specs.Put.{Put};
-ghost use Rattle.overlay.specs.NewRecords.{lead_in, one_image, new_image, Puts, WritesOne, WritesAll, edits_of, replaced_of, unchanged_of};
+ghost use Rattle.overlay.specs.NewRecords.{lead_in, new_image, Puts, WritesOne, WritesAll, replaced_of, unchanged_of};
 
+use crate::list::Copied;
 use crate::record::{Edit, Head, Lead, NewRecord, put_edit};
 use change::copy::put_between;
 use change::cut::{Cut, count_after};
@@ -17,18 +18,6 @@ pub struct NewLive {
     pub count: u64,
     pub first: usize,
     pub edit: Edit,
-}
-
-// The same with the first `number` of these changed, the least inode first; four, where the number is above 3. For rename.
-#[derive(Clone, Copy)]
-pub struct NewRecords {
-    pub count: u64,
-    pub first: usize,
-    pub number: usize,
-    pub one: Edit,
-    pub two: Edit,
-    pub three: Edit,
-    pub four: Edit,
 }
 
 // Another record of the inode where the records are cut. A clause on the count, and no fact of `Cut`: `unchanged` asks nothing of its cut.
@@ -64,67 +53,45 @@ pub fn unchanged(cut: Cut, ino: u64) -> NewLive
     }
 }
 
-// Measures the image with one record changed, and writes it to the target if there is room. A record that is given, and a name that is
-// removed, is `given`; a name that is added is `new_name`.
+// Measures the image with one record changed, and writes it to the target if there is room.
 pub fn write_record(
-    img: &[u8],
-    given: &[u8],
-    new_name: &[u8],
+    copied: Copied,
     sections: Sections,
     new: NewLive,
     target: &mut [u8],
 ) -> Result<usize, Refusal>
-    ensures { WritesOne img.now given.now new_name.now sections new target.old result target.new }
+    ensures { WritesOne copied.entry sections new target.old result target.new }
 {
-    write_if_room(target, |buf| {
-        put_changed(buf, img, given, new_name, sections, new)
-    })
+    write_records(copied, sections, new, &[], target)
 }
 
-// The same with up to four records changed.
+// The same with others changed behind it, the least inode first. For rename.
 pub fn write_records(
-    img: &[u8],
-    given: &[u8],
-    new_name: &[u8],
+    copied: Copied,
     sections: Sections,
-    new: NewRecords,
+    new: NewLive,
+    others: &[Edit],
     target: &mut [u8],
 ) -> Result<usize, Refusal>
-    ensures { WritesAll img.now given.now new_name.now sections new target.old result target.new }
+    ensures { WritesAll copied.entry sections new others.now target.old result target.new }
 {
     write_if_room(target, |buf| {
-        put_all_changed(buf, img, given, new_name, sections, new)
+        put_changed(buf, copied, sections, &new, others)
     })
 }
 
-// The image with one record changed.
+// The image with these records changed.
 fn put_changed(
     buf: &mut [u8],
-    img: &[u8],
-    given: &[u8],
-    new_name: &[u8],
+    copied: Copied,
     sections: Sections,
-    new: NewLive,
+    new: &NewLive,
+    others: &[Edit],
 ) -> usize
-    ensures { Put buf.old 0 (one_image img.now given.now new_name.now sections new) result buf.new }
+    ensures { Put buf.old 0 (new_image copied.entry.img.now copied.entry.given.now copied.entry.new_name.now sections new.now others.now) result buf.new }
 {
     let lead = lead_in(sections, new.count, new.first);
-    put_image(buf, 0, img, given, new_name, lead, new.edit)
-}
-
-// The same with up to four.
-fn put_all_changed(
-    buf: &mut [u8],
-    img: &[u8],
-    given: &[u8],
-    new_name: &[u8],
-    sections: Sections,
-    new: NewRecords,
-) -> usize
-    ensures { Put buf.old 0 (new_image img.now given.now new_name.now sections new) result buf.new }
-{
-    let lead = lead_in(sections, new.count, new.first);
-    put_images(buf, 0, img, given, new_name, lead, new)
+    put_images(buf, 0, copied, lead, &new.edit, others)
 }
 
 fn lead_in(sections: Sections, count: u64, first: usize) -> Lead
@@ -137,49 +104,22 @@ fn lead_in(sections: Sections, count: u64, first: usize) -> Lead
     })
 }
 
-// The image with one record changed; behind another that changes, the rest of it.
-fn put_image(
-    buf: &mut [u8],
-    at: usize,
-    img: &[u8],
-    given: &[u8],
-    new_name: &[u8],
-    lead: Lead,
-    edit: Edit,
-) -> usize
-    ensures { Puts buf.old at img.now given.now new_name.now lead (edit ∷ []) result buf.new }
-{
-    let next = put_edit(buf, at, img, given, new_name, lead, edit);
-    put_between(buf, next, img, edit.after, img.len())
-}
-
-// The same with up to four.
+// What comes before the first record that changes, that record, the others with what is between, and the rest of the image.
 fn put_images(
     buf: &mut [u8],
     at: usize,
-    img: &[u8],
-    given: &[u8],
-    new_name: &[u8],
+    copied: Copied,
     lead: Lead,
-    new: NewRecords,
+    one: &Edit,
+    others: &[Edit],
 ) -> usize
-    ensures { Puts buf.old at img.now given.now new_name.now lead (edits_of new) result buf.new }
+    ensures { Puts buf.old at copied.entry lead (one.now ∷ others.now) result buf.new }
 {
-    let a = new.one;
-    let b = new.two;
-    let c = new.three;
-    let d = new.four;
-    if new.number <= 1 {
-        return put_image(buf, at, img, given, new_name, lead, a);
+    let mut next = put_edit(buf, at, copied, lead, one);
+    let mut after = one.after;
+    for other in others {
+        next = put_edit(buf, next, copied, Lead::Behind(after), other);
+        after = other.after;
     }
-    let second = put_edit(buf, at, img, given, new_name, lead, a);
-    if new.number == 2 {
-        return put_image(buf, second, img, given, new_name, Lead::Behind(a.after), b);
-    }
-    let third = put_edit(buf, second, img, given, new_name, Lead::Behind(a.after), b);
-    if new.number == 3 {
-        return put_image(buf, third, img, given, new_name, Lead::Behind(b.after), c);
-    }
-    let fourth = put_edit(buf, third, img, given, new_name, Lead::Behind(b.after), c);
-    put_image(buf, fourth, img, given, new_name, Lead::Behind(c.after), d)
+    put_between(buf, next, copied.img, after, copied.img.len())
 }

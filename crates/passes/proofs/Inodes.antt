@@ -66,9 +66,6 @@ module _ {A : Type 0} (value : Codec A) (img : List ℕ) (sought : ℕ) where
   pub record Seeking (start n : ℕ) (place : Option ℕ) (here left : ℕ) : Type 0 where
     pub same : first place (placed left (drop here img)) ≡ placed n (drop start img)
 
-  pub seeking-start : {start n left : ℕ} → left ≡ n → Seeking start n None start left
-  seeking-start e = rw e (record { same = refl })
-
   chosen : (place : Option ℕ) (m : ℕ) (b : Bool) (j : ℕ) (rest : Option ℕ) → eqb j sought ≡ b
       → first place (choose (cmp_n sought j) (Some m) rest) ≡ first (option_or place (then_some b m)) rest
   chosen (Some p) m b j rest e = refl
@@ -83,8 +80,10 @@ module _ {A : Type 0} (value : Codec A) (img : List ℕ) (sought : ℕ) where
       go Greater k = refl
 
   module _ {start n here left : ℕ} {place : Option ℕ} (w : Seeking start n place here left) where
-    pub seeking-on : (prev : Option ℕ) {j m q rest : ℕ} {here_found found : Option ℕ} → 0 < left → Reads img (only (after by_number prev) inode).read here (Ok (j, m))
-        → Ends img value.read m (Ok q) → here_found ≡ then_some (eqb j sought) m → found ≡ option_or place here_found → rest ≡ left - 1 → Seeking start n found q rest
+    pub seeking-on : (prev : Option ℕ) {j m q rest : ℕ} {here_found found : Option ℕ} → 0 < left → Reads img (only (after by_number prev) inode).read here
+        (Ok (j, m))
+        → Ends img value.read m (Ok q) → here_found ≡ then_some (eqb j sought) m → found ≡ option_or place here_found → rest ≡ left - 1 → Seeking start n
+        found q rest
     seeking-on prev {j} {m} {q} h a g d f z =
         let u = ends-got g in
         rw (f, d, z) (record {
@@ -127,7 +126,8 @@ module _ {img : List ℕ} {h : Held} {sought : ℕ} where
       pub finds-unkeyed : {r : Result (Option ℕ × ℕ) Fault} {f : Fault} → o ≡ Err f → r ≡ Err f → FindsRows img h sought first n r
       finds-unkeyed d e = rw e (record { ends = passed-unkeyed p l a d refl; found = tt })
 
-      pub finds-stop : {k m : ℕ} → o ≡ Ok (k, m) → {u : Result ℕ Fault} → Ends img (held h).read m u → {r : Result (Option ℕ × ℕ) Fault} {f : Fault} → u ≡ Err f → r ≡ Err f
+      pub finds-stop : {k m : ℕ} → o ≡ Ok (k, m) → {u : Result ℕ Fault} → Ends img (held h).read m u → {r : Result (Option ℕ × ℕ) Fault} {f : Fault} → u ≡ Err
+          f → r ≡ Err f
           → FindsRows img h sought first n r
       finds-stop d b c e = rw e (record { ends = passed-stop p l a d b c refl; found = tt })
 

@@ -21,7 +21,7 @@ pub enum Held {
     Record,
 }
 
-// The inode at `at`, which is after the one before it, if there is one, and the place after it.
+// The inode at `at`, which is after the one before it, if there is one, and the place after it. Beside `name_after` (image), which says why.
 pub fn inode_after(img: &[u8], at: usize, before: Option<u64>) -> Result<(u64, usize), Fault>
     ensures { Reads img.now (only (after by_number before) inode).read at result }
 {

@@ -33,7 +33,7 @@ pub fn request(img: &[u8], reason: u64, target: &mut [u8]) -> Result<usize, Refu
     }
     let (staged, _) = read_tail(img, sections.tail).unwrap();
     let tail = Tail {
-        request: Reason::numbered(reason),
+        request: Reason::try_from(reason).ok(),
         ..staged
     };
     write_queue(img, sections, NewQueue::Staged(tail), target)

@@ -33,7 +33,8 @@ module _ (img : List ℕ) (end : ℕ) where
   list-bytes (Some p) h = list_written U.Change h
   list-bytes None h = refl
 
-  change-bytes : (n : NodeDelta) → ChangeListed img n end → change_bytes img n ≡ (change_part (changed_kind (change_meant img n))).write (change_part_of (change_meant img n))
+  change-bytes : (n : NodeDelta) → ChangeListed img n end → change_bytes img n ≡ (change_part (changed_kind (change_meant img n))).write
+      (change_part_of (change_meant img n))
   change-bytes (Directory d) h = rw (list_written U.Inode h.0, list_written U.Nothing h.1, append_assoc) refl
   change-bytes (File d) h = refl
   change-bytes (Symlink d) h = refl
@@ -42,7 +43,8 @@ module _ (img : List ℕ) (end : ℕ) where
   change-bytes (BlockDevice d) h = refl
   change-bytes (Socket d) h = refl
 
-  body_bytes_lem : (k : NodeKind) → EntriesListed img k end → body_bytes img k ≡ (body_part (kind_of (body_meant img k))).write (body_part_of (body_meant img k))
+  body_bytes_lem : (k : NodeKind) → EntriesListed img k end → body_bytes img k ≡ (body_part (kind_of (body_meant img k))).write
+      (body_part_of (body_meant img k))
   body_bytes_lem (K.Directory parent es) h = rw (list_written U.Inode h)
   body_bytes_lem (K.File n) h = refl
   body_bytes_lem (K.Symlink t) h = refl
@@ -58,11 +60,13 @@ module _ (img : List ℕ) (end : ℕ) where
   pub entry-written : (e : EntryDelta) (mid : ℕ) → AttrListed img e mid → EntryListed img e end → entry_bytes img e ≡ layer_record.write (entry_meant img e)
   unfolding layer_record code
   entry-written (E.Node n) mid a h = rw (list-bytes img mid (attr_of n).xattrs a, change-bytes img end n h, fields-bytes img (attr_of n))
-      (regroup (number_bytes (suc (kind_number (changed_kind (change_meant img n))))) (attr_bytes (attr_of n)) (opt_write changes (list_of img U.Change (attr_of n).xattrs))
+      (regroup (number_bytes (suc (kind_number (changed_kind (change_meant img n))))) (attr_bytes (attr_of n))
+      (opt_write changes (list_of img U.Change (attr_of n).xattrs))
       ((change_part (changed_kind (change_meant img n))).write (change_part_of (change_meant img n))))
   entry-written E.Tombstone mid a h = sym (append-nil (number_bytes 0))
 
-  pub node-written : (n : Node) (mid : ℕ) → Listed img U.Value n.meta.xattrs mid → EntriesListed img n.kind end → node_bytes img n ≡ node.write (node_meant img n)
+  pub node-written : (n : Node) (mid : ℕ) → Listed img U.Value n.meta.xattrs mid → EntriesListed img n.kind end → node_bytes img n ≡ node.write
+      (node_meant img n)
   unfolding node kind
   node-written n mid a h = rw (list_written U.Value a, body_bytes_lem img end n.kind h, meta-bytes img n.meta)
       (regroup (number_bytes (kind_number (kind_of (body_meant img n.kind)))) (meta_bytes n.meta) (attributes.write (list_at img U.Value n.meta.xattrs))

@@ -1,4 +1,4 @@
-// Nodes and records written, batch heads and the end of an image read and written.
+// Nodes and records written.
 #![tactic(auto)]
 
 pub mod write_node;

@@ -13,7 +13,8 @@ use Rattle.image.specs.declared.name.Under.TheVariants as U
 use Rattle.wire.specs.Combinators.{nothing}
 use Rattle.rules.specs.Changes.{map_if}
 use Rattle.rules.specs.Starts.{Placed, Started, starts, attributes_at, entries_at, changes_at, added_at}
-use Rattle.rules.specs.PlacedReads.{look_placed, placed_entries, placed_values, body_starts, change_starts, record_starts, set_start, alter_starts, record_value_starts}
+use Rattle.rules.specs.PlacedReads.{look_placed, placed_entries, placed_values, body_starts, change_starts}
+use Rattle.rules.specs.PlacedReads.{record_starts, set_start, alter_starts, record_value_starts}
 use Rattle.rules.specs.ReadCalls.{row_of}
 use Rattle.rules.proofs.MapValues.{map_row, map_values, map_rows, get-map, map-empty, map-merge}
 use Rattle.rules.proofs.Forgotten.{forgotten, starts-forgotten}
@@ -25,7 +26,7 @@ use Rattle.stack.specs.declared.stack.Stack.{Stack}
 use Rattle.merge.specs.declared.sources.Sources.{Sources}
 use Rattle.merge.specs.Pile.{merged, itself, decisions}
 use Rattle.merge.specs.Sources.{Given, Decided, decided}
-use Rattle.merge.specs.Merges.{listed, plain_row, decided_rows}
+use Rattle.merge.specs.Merges.{plain_row, rows_decided}
 use Rattle.rows.specs.Listings.{rows_listed, rows_in}
 use Rattle.merge.proofs.Piles.{pile-merged}
 use Rattle.merge.proofs.Lists.{Deciding, pile_rows, source_of}
@@ -36,7 +37,8 @@ abbrev merges : List Deciding → Started Given
 merges cs = merged by_bytes (itself by_bytes) cs
 
 -- a source over nothing
-merge-alone : {A : Type 0} (f : A → ℕ × Given) (m : Map by_bytes A) → merge by_bytes (itself by_bytes) (map_values by_bytes (λ a. Some (f a)) m) (empty by_bytes) ≡ map_values by_bytes f m
+merge-alone : {A : Type 0} (f : A → ℕ × Given) (m : Map by_bytes A)
+    → merge by_bytes (itself by_bytes) (map_values by_bytes (λ a. Some (f a)) m) (empty by_bytes) ≡ map_values by_bytes f m
 merge-alone {A} f m =
     map-ext by_bytes (merge by_bytes (itself by_bytes) (map_values by_bytes (λ a. Some (f a)) m) (empty by_bytes)) (map_values by_bytes f m) (λ k.
     simp (get-merge, get-map, get-empty) (go (get by_bytes k m)))
@@ -46,13 +48,16 @@ merge-alone {A} f m =
     go (Some a) = refl
 
 -- removed names, whose starts nothing shows
-merge-removed : (q : ℕ) (removed : Names) (x : Started Given) → merge by_bytes (itself by_bytes) (source_of U.Nothing q removed) x ≡ merge by_bytes (λ name u old. None) removed x
+merge-removed : (q : ℕ) (removed : Names) (x : Started Given)
+    → merge by_bytes (itself by_bytes) (source_of U.Nothing q removed) x ≡ merge by_bytes (λ name u old. None) removed x
 merge-removed q removed x =
-    map-ext by_bytes (merge by_bytes (itself by_bytes) (source_of U.Nothing q removed) x) (merge by_bytes (λ name u old. None) (forgotten (starts nothing q removed)) x) (λ k.
+    map-ext by_bytes (merge by_bytes (itself by_bytes) (source_of U.Nothing q removed) x)
+    (merge by_bytes (λ name u old. None) (forgotten (starts nothing q removed)) x) (λ k.
     simp (get-merge, get-map) (go k (get by_bytes k (starts nothing q removed))))
     ∙ ap (λ (r : Names). merge by_bytes (λ name u old. None) r x) (starts-forgotten nothing q removed)
   where
-    go : (k : Text) (o : Option (ℕ × Unit {0})) → meet (itself by_bytes k) (map_if (decided U.Nothing) o) (get by_bytes k x) ≡ meet (λ u old. None) (map_if (λ y. y.1) o) (get by_bytes k x)
+    go : (k : Text) (o : Option (ℕ × Unit {0}))
+        → meet (itself by_bytes k) (map_if (decided U.Nothing) o) (get by_bytes k x) ≡ meet (λ u old. None) (map_if (λ y. y.1) o) (get by_bytes k x)
     go k None = refl
     go k (Some a) = refl
 
@@ -60,7 +65,8 @@ merge-removed q removed x =
 removed-map : {A B : Type 0} (f : A → B) (removed : Names) (x : Map by_bytes A)
     → merge by_bytes (λ name u old. None) removed (map_values by_bytes f x) ≡ map_values by_bytes f (merge by_bytes (λ name u old. None) removed x)
 removed-map {A} {B} f removed x =
-    map-ext by_bytes (merge by_bytes (λ name u old. None) removed (map_values by_bytes f x)) (map_values by_bytes f (merge by_bytes (λ name u old. None) removed x)) (λ k.
+    map-ext by_bytes (merge by_bytes (λ name u old. None) removed (map_values by_bytes f x))
+    (map_values by_bytes f (merge by_bytes (λ name u old. None) removed x)) (λ k.
     simp (get-merge, get-map) (go (get by_bytes k removed) (get by_bytes k x)))
   where
     go : (u : Option (Unit {0})) (o : Option A) → meet (λ u old. None) u (map_if f o) ≡ map_if f (meet (λ u old. None) u o)
@@ -87,8 +93,10 @@ change-decides p f (directory parent added removed) below es e =
     let over = source_of U.Inode (added_at p f parent) added in
     let q = removed_at p f parent added in
     ap (λ (x : Started Given). merge by_bytes (itself by_bytes) over (merge by_bytes (itself by_bytes) (source_of U.Nothing q removed) x)) e
-    ∙ ap (λ (x : Started Given). merge by_bytes (itself by_bytes) over x) (merge-removed q removed (map_values by_bytes inoded es) ∙ removed-map inoded removed es)
-    ∙ sym (map-merge by_bytes inoded (decided U.Inode) (λ name new old. Some new) (itself by_bytes) (λ k c o. refl) (starts inode (added_at p f parent) added) (merge by_bytes (λ name u old. None) removed es))
+    ∙ ap (λ (x : Started Given). merge by_bytes (itself by_bytes) over x)
+    (merge-removed q removed (map_values by_bytes inoded es) ∙ removed-map inoded removed es)
+    ∙ sym (map-merge by_bytes inoded (decided U.Inode) (λ name new old. Some new) (itself by_bytes) (λ k c o. refl) (starts inode (added_at p f parent) added)
+    (merge by_bytes (λ name u old. None) removed es))
 change-decides p f (file n) below es e = e
 change-decides p f (symlink t) below es e = e
 change-decides p f (special s device) below es e = e
@@ -121,7 +129,8 @@ alter-decides : (p : ℕ) (f : Fields) (o : Option Changes) (below : List Decidi
 unfolding merged
 alter-decides p f None below vs e = e
 alter-decides p f (Some cs) below vs e =
-    rw e (sym (map-merge by_bytes zeroed (decided U.Change) (λ name c old. set_start c) (itself by_bytes) (λ k c o. set-zeroed c.0 c.1) (starts (maybe value) (changes_at p f cs) cs) vs))
+    rw e (sym (map-merge by_bytes zeroed (decided U.Change) (λ name c old. set_start c) (itself by_bytes) (λ k c o. set-zeroed c.0 c.1)
+    (starts (maybe value) (changes_at p f cs) cs) vs))
 
 values-decide : (rs : List (Placed Record)) (b : Option (Placed Node))
     → merges (pile_of L.Attributes None rs b) ≡ map_values by_bytes zeroed (look_placed placed_values rs b)
@@ -156,6 +165,7 @@ pile-shows L.Attributes rs b =
     rw (pile-merged by_bytes (itself by_bytes) (pile_of L.Attributes None rs b), values-decide rs b, map_rows by_bytes zeroed (look_placed placed_values rs b))
     (rows-zeroed (look_placed placed_values rs b).rows)
 
-pub gathered-rows : {s : Stack} (l : Listing) {r : Sources} → Gathers s l None r → decided_rows s.img.now (listed r) ≡ rows_in l s
+pub gathered-rows : {s : Stack} (l : Listing) {r : Sources} → Gathers s l None r → rows_decided r ≡ rows_in l s
 gathered-rows {s} l g =
-    ap (λ (ss : List (List Decided)). map plain_row (decisions by_bytes ss)) g.are ∙ pile-shows l (records_in s.img.now s.places) (node_in s.img.now s.places)
+    rw g.image
+    (ap (λ (ss : List (List Decided)). map plain_row (decisions by_bytes ss)) g.are ∙ pile-shows l (records_in s.img.now s.places) (node_in s.img.now s.places))

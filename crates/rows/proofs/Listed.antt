@@ -1,22 +1,17 @@
 -- What a listing answers, by the attributes and the rows that a stack shows.
 -- Assumes nothing.
 use Rattle.std.specs.Prelude.{Result, Ok, Err, None, Option, Some}
-use mathlib.Core.Path.{◌≡◌, subst, refl, sym, ◌∙◌}
+use mathlib.Core.Path.{◌≡◌, refl, sym, ◌∙◌}
 use mathlib.Core.Bool.{Bool, true, false, cond}
 use mathlib.Core.List.{List, [], ◌∷◌}
 use Prim.Native.Nat.{ℕ, ◌≤◌}
 use lib.Dec.{ltb}
 use lib.ListN.{length, drop, length-map}
 use lib.Seq.{take-append_seam}
-use denote.Enum.Bare.{sameb}
 use Rattle.wire.specs.Parse.{got}
 use Rattle.wire.specs.Orders.{by_number}
 use Rattle.wire.specs.Maps.{get}
 use Rattle.image.specs.Meaning.{Kind, Entries, Attributes, Store, directory, file, symlink, special}
-use Rattle.image.specs.FileTypes.{kind_meant}
-use Rattle.image.specs.declared.kind.FileType.{FileType}
-use Rattle.image.specs.declared.kind.FileType.TheVariants as K
-use Rattle.image.specs.contracts.kind.FileType as type
 use Rattle.rules.specs.Initial.{usual}
 use Rattle.image.specs.RoundTrip.{read_image}
 use Rattle.survey.specs.Verdict.{number_of}
@@ -42,20 +37,11 @@ use Rattle.gather.specs.declared.gather.Listing.{Listing}
 use Rattle.gather.specs.declared.gather.Listing.TheVariants as L
 use Rattle.stack.proofs.Opening.{opened-refused, opened-store}
 
--- a directory, told by its tag
-pub directory_type : (t : FileType) → sameb type.the_type t K.Directory ≡ is_directory (kind_meant t)
-directory_type K.Directory = refl
-directory_type K.RegularFile = refl
-directory_type K.Symlink = refl
-directory_type K.NamedPipe = refl
-directory_type K.CharDevice = refl
-directory_type K.BlockDevice = refl
-directory_type K.Socket = refl
-
 -- ---- rows in place of names
 
 module _ (lent : ℕ) (rows : List Row) where
-  given : {A : Type 0} (l : List A) (n : ℕ) → length rows ≡ n → map_answer (map_if (λ l. rows)) (unless (first_of ((5, ltb lent n) ∷ [])) (Some l)) ≡ room_for lent rows
+  given : {A : Type 0} (l : List A) (n : ℕ) → length rows ≡ n
+      → map_answer (map_if (λ l. rows)) (unless (first_of ((5, ltb lent n) ∷ [])) (Some l)) ≡ room_for lent rows
   given l n e = rw e (go (ltb lent n))
     where
       go : (b : Bool) → map_answer (map_if (λ l. rows)) (unless (first_of ((5, b) ∷ [])) (Some l)) ≡ cond b (refused 5) (answer (Some rows))
@@ -63,18 +49,21 @@ module _ (lent : ℕ) (rows : List Row) where
       go false = refl
 
   entries-given : (a : Option FileAttr) (es : Entries) → length rows ≡ length es.rows
-      → map_answer (map_if (λ l. rows)) (unless (first_of ((5, few_rows lent (listed a es)) ∷ [])) (rows_of (listed a es))) ≡ cond (is_listed L.Entries a) (room_for lent rows) (answer None)
+      → map_answer (map_if (λ l. rows)) (unless (first_of ((5, few_rows lent (listed a es)) ∷ [])) (rows_of (listed a es)))
+      ≡ cond (is_listed L.Entries a) (room_for lent rows) (answer None)
   entries-given None es e = refl
   entries-given (Some a) es e = go a.type
     where
-      go : (k : Kind) → map_answer (map_if (λ l. rows)) (unless (first_of ((5, few_rows lent (if_directory k es)) ∷ [])) (rows_of (if_directory k es))) ≡ cond (is_directory k) (room_for lent rows) (answer None)
+      go : (k : Kind) → map_answer (map_if (λ l. rows)) (unless (first_of ((5, few_rows lent (if_directory k es)) ∷ [])) (rows_of (if_directory k es)))
+          ≡ cond (is_directory k) (room_for lent rows) (answer None)
       go directory = given es.rows (length es.rows) e
       go file = refl
       go symlink = refl
       go (special s) = refl
 
   names-given : (a : Option FileAttr) (vs : Attributes) → length rows ≡ length vs.rows
-      → map_answer (map_if (λ l. rows)) (unless (first_of ((5, few_rows lent (valued a vs)) ∷ [])) (names_of (valued a vs))) ≡ cond (is_listed L.Attributes a) (room_for lent rows) (answer None)
+      → map_answer (map_if (λ l. rows)) (unless (first_of ((5, few_rows lent (valued a vs)) ∷ [])) (names_of (valued a vs)))
+      ≡ cond (is_listed L.Attributes a) (room_for lent rows) (answer None)
   names-given None vs e = refl
   names-given (Some a) vs e = given (name_rows vs.rows) (length vs.rows) e
 
@@ -86,11 +75,13 @@ unfolding reply entry_rows attribute_rows
 fine-listing {img} {i} room k {st} few g L.Entries =
     rw (k.image_is, k.records_are, k.node_is, placed-stack img i g, placed-node img i g)
     (over-fine _ img few g
-    ∙ entries-given room (entry_rows img i) (view_at usual st i).attributes (look entries (stack i (layers st)) (get by_number i st.base)) (entry-count img i g))
+    ∙ entries-given room (entry_rows img i) (view_at usual st i).attributes (look entries (stack i (layers st)) (get by_number i st.base))
+    (entry-count img i g))
 fine-listing {img} {i} room k {st} few g L.Attributes =
     rw (k.image_is, k.records_are, k.node_is, placed-stack img i g, placed-node img i g)
     (over-fine _ img few g
-    ∙ names-given room (attribute_rows img i) (view_at usual st i).attributes (look values (stack i (layers st)) (get by_number i st.base)) (attribute-count img i g))
+    ∙ names-given room (attribute_rows img i) (view_at usual st i).attributes (look values (stack i (layers st)) (get by_number i st.base))
+    (attribute-count img i g))
 
 module _ {img : List ℕ} {i : ℕ} {o : Result Stack Refusal} (h : Opens img i o) (room : ℕ) where
   refused-listing : (l : Listing) {f : Refusal} → o ≡ Err f → list_call l img i room ≡ refused (number_of f)
@@ -98,7 +89,7 @@ module _ {img : List ℕ} {i : ℕ} {o : Result Stack Refusal} (h : Opens img i 
   refused-listing L.Attributes d = opened-refused h _ d
 
   -- "1, 2"
-  pub listing-refused : (l : Listing) {f : Refusal} {r : Result (Option Plan) Refusal} → o ≡ Err f → r ≡ Err f → Plans img (list_call l img i room) room r
+  pub listing-refused : (l : Listing) {f : Refusal} {r : Result (Option Plan) Refusal} → o ≡ Err f → r ≡ Err f → Plans (list_call l img i room) room r
   listing-refused l d e = rw e (record { answers = sym (refused-listing l d); fits = tt })
 
   module _ {s : Stack} (d : o ≡ Ok s) (l : Listing) {a : Option FileAttr} (e : a ≡ shown_in (attributes usual i) s) where
@@ -106,37 +97,34 @@ module _ {img : List ℕ} {i : ℕ} {o : Result Stack Refusal} (h : Opens img i 
     call-is = let v = opened-store h d in let g = rw d at h in rw e (fine-listing room g.stack v.2 v.1 l)
 
     -- then none
-    pub listing_none : is_listed l a ≡ false → Plans img (list_call l img i room) room (Ok None)
+    pub listing_none : is_listed l a ≡ false → Plans (list_call l img i room) room (Ok None)
     listing_none f = record { answers = rw (call-is, f); fits = tt }
 
     -- last 5, or the rows
-    module _ (t : is_listed l a ≡ true) {w : Result Plan Refusal} (p : PlansRows s.img.now (rows_in l s) room w) where
-      pub listing-few : {f : Refusal} {r : Result (Option Plan) Refusal} → w ≡ Err f → r ≡ Err f → Plans img (list_call l img i room) room r
+    module _ (t : is_listed l a ≡ true) {w : Result Plan Refusal} (p : PlansRows (rows_in l s) room w) where
+      pub listing-few : {f : Refusal} {r : Result (Option Plan) Refusal} → w ≡ Err f → r ≡ Err f → Plans (list_call l img i room) room r
       listing-few x y = let g = rw x at p in rw y (record { answers = rw (call-is, t) g.answers; fits = tt })
 
-      pub listing-rows : {q : Plan} → w ≡ Ok q → Plans img (list_call l img i room) room (Ok (Some q))
-      listing-rows {q} x =
-          let k = (rw d at h).stack.image_is in
-          let g = subst (λ (i : List ℕ). PlansRows i (rows_in l s) room (Ok q)) k (rw x at p) in
-          record { answers = rw (call-is, t) g.answers; fits = g.fits }
+      pub listing-rows : {q : Plan} → w ≡ Ok q → Plans (list_call l img i room) room (Ok (Some q))
+      listing-rows {q} x = let g = rw x at p in record { answers = rw (call-is, t) g.answers; fits = g.fits }
 
 -- ---- the rows lent
 
-module _ {img : List ℕ} {a : Answer (Option (List Row))} {room : ℕ} {o : Result (Option Plan) Refusal} (h : Plans img a room o) {old : List Entry} where
+module _ {a : Answer (Option (List Row))} {room : ℕ} {o : Result (Option Plan) Refusal} (h : Plans a room o) {old : List Entry} where
   pub filled-refused : {f : Refusal} {r : Result (Option ℕ) Refusal} → o ≡ Err f → r ≡ Err f → Filled a old old r
   filled-refused d e = let g = rw d at h in rw (e, ← g.answers) (record { answers = refl; count = refl; rows = refl })
 
   pub filled_none : o ≡ Ok None → Filled a old old (Ok None)
   filled_none d = let g = rw d at h in rw (← g.answers) (record { answers = refl; count = refl; rows = refl })
 
-  pub filled-all : {p : Plan} {n : ℕ} {new : List Entry} → o ≡ Ok (Some p) → Fills (plan_entries img p) old n new → Filled a old new (Ok (Some n))
+  pub filled-all : {p : Plan} {n : ℕ} {new : List Entry} → o ≡ Ok (Some p) → Fills (plan_entries p) old n new → Filled a old new (Ok (Some n))
   filled-all {p} {n} {new} d f =
       let g = rw d at h in
-      let es = plan_entries img p in
+      let es = plan_entries p in
       rw (← g.answers)
       (record {
         answers = rw (f.many, f.rows, take-append_seam es (drop (length es) old));
-        count = f.many ∙ length-map (plan_rows img p) entry_of;
+        count = f.many ∙ length-map (plan_rows p) entry_of;
         rows = f.rows;
       })
 

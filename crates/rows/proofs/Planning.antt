@@ -12,13 +12,11 @@ use lib.ListN.{length, take, drop, get_or, set, length-drop, length-map}
 use lib.Seq.{drop-cons, take-suc, set_at, length-take-le}
 use borrow.Author.Tests.{ltb-false}
 use Rattle.stack.specs.declared.stack.Stack.{Stack}
-use Rattle.merge.specs.Merges.{listed, Ready, decided_rows, row_of_given, with_first, Gives, count_of}
-use Rattle.merge.specs.declared.source.Source.{Source}
+use Rattle.merge.specs.Merges.{rows_decided, row_of_given, with_first, Gives, count_of}
 use Rattle.merge.specs.declared.sources.Sources.{Sources}
 use Rattle.merge.specs.declared.merge.Row.{Row as GivenRow}
 use Rattle.gather.specs.Gathers.{Gathers}
 use Rattle.gather.specs.declared.gather.Listing.{Listing}
-use Rattle.gather.proofs.Gathering.{gathered-ready}
 use Rattle.survey.specs.declared.refusal.Refusal.TheVariants.{NoRoom}
 use Rattle.rows.specs.Listings.{rows_in}
 use Rattle.rows.specs.Plans.{entry_of, plan_rows, Fits, PlansRows, plan_entries}
@@ -43,16 +41,16 @@ counted-many room count = go (ltb room count) refl
     go false h e = absurd (let z : ◌≡◌ {A = ℕ} 0 1 = cc in omega arith)
 
 module _ {s : Stack} (l : Listing) {all : Sources} (g : Gathers s l None all) {room : ℕ} {c : Option ℕ}
-    (k : c ≡ count_of (length (decided_rows s.img.now (listed all))) room) where
-  pub planned : {n : ℕ} → c ≡ Some n → PlansRows s.img.now (rows_in l s) room (Ok (record { all = all; count = n }))
+    (k : c ≡ count_of (length (rows_decided all)) room) where
+  pub planned : {n : ℕ} → c ≡ Some n → PlansRows (rows_in l s) room (Ok (record { all = all; count = n }))
   planned {n} e =
-      let rows = decided_rows s.img.now (listed all) in
+      let rows = rows_decided all in
       let z = counted-rows room (length rows) n (sym k ∙ e) in
       let low = ltb-false room (length rows) z.0 in
-      rw (← gathered-rows l g) (record { answers = rw z.0; fits = record { ready = gathered-ready g; count = z.1; small = omega (arith, low, z.1) } })
+      rw (← gathered-rows l g) (record { answers = rw z.0; fits = record { count = z.1; small = omega (arith, low, z.1) } })
 
-  pub planned-few : c ≡ None → PlansRows s.img.now (rows_in l s) room (Err NoRoom)
-  planned-few e = rw (← gathered-rows l g) (record { answers = rw (counted-many room (length (decided_rows s.img.now (listed all))) (sym k ∙ e)); fits = tt })
+  pub planned-few : c ≡ None → PlansRows (rows_in l s) room (Err NoRoom)
+  planned-few e = rw (← gathered-rows l g) (record { answers = rw (counted-many room (length (rows_decided all)) (sym k ∙ e)); fits = tt })
 
 -- ---- rows filled from the front: so far i of them
 
@@ -65,36 +63,36 @@ module _ (new old : List Entry) where
       let n = drop-cons new i e h in
       let z : get_or new i e ≡ e = cc in
       let o = drop-cons old i e (omega arith) in
-      rw (o, add-one, take-suc new i e h, z) (set_at (take i new) (get_or old i e) (drop (suc i) old) e i (length-take-le i new (omega arith)) ∙ sym (append_assoc (take i new) (e ∷ []) (drop (suc i) old)))
+      rw (o, add-one, take-suc new i e h, z)
+      (set_at (take i new) (get_or old i e) (drop (suc i) old) e i (length-take-le i new (omega arith))
+      ∙ sym (append_assoc (take i new) (e ∷ []) (drop (suc i) old)))
 
 -- the rows from the i-th on are left
-pub record Going (img : List ℕ) (es : List Entry) (i : ℕ) (l : List Source) : Type 0 where
-  pub left : map entry_of (decided_rows img l) ≡ drop i es
-  pub ready : Ready img l
+pub record Going (es : List Entry) (i : ℕ) (all : Sources) : Type 0 where
+  pub left : map entry_of (rows_decided all) ≡ drop i es
 
-module _ {img : List ℕ} {es : List Entry} {i : ℕ} {l rest : List Source} (g : Going img es i l) (h : i < length es) {o : Option GivenRow}
-    (t : Gives img l o rest) where
+module _ {es : List Entry} {i : ℕ} {all rest : Sources} (g : Going es i all) (h : i < length es) {o : Option GivenRow} (t : Gives all o rest) where
   pub going-given : IsSome o
   going-given = go o (ap (map entry_of) t.rows)
     where
-      go : (o : Option GivenRow) → map entry_of (decided_rows img l) ≡ map entry_of (with_first row_of_given o (decided_rows img rest)) → IsSome o
+      go : (o : Option GivenRow) → map entry_of (rows_decided all) ≡ map entry_of (with_first row_of_given o (rows_decided rest)) → IsSome o
       go (Some x) e = refl
       go None e = absurd (omega (arith, ap length (sym g.left ∙ e), length-drop i es))
 
   module _ {x : GivenRow} (d : o ≡ Some x) where
-    going-row : drop i es ≡ entry_of (row_of_given x) ∷ map entry_of (decided_rows img rest)
+    going-row : drop i es ≡ entry_of (row_of_given x) ∷ map entry_of (rows_decided rest)
     going-row = sym g.left ∙ rw (t.rows, d)
 
-    rest-is : map entry_of (decided_rows img rest) ≡ drop (suc i) es
+    rest-is : map entry_of (rows_decided rest) ≡ drop (suc i) es
     rest-is = let d = drop-cons es i (entry_of (row_of_given x)) h in cc going-row
 
     pub going-filled : (old : List Entry) → length es ≤ length old → set (filled_to es old i) i (entry_of (row_of_given x)) ≡ filled_to es old (i + 1)
     going-filled old k = filled-one es old i (entry_of (row_of_given x)) h k (rw rest-is at going-row)
 
-    pub going_more : Going img es (i + 1) rest
-    going_more = record { left = rw add-one rest-is; ready = t.ready }
+    pub going_more : Going es (i + 1) rest
+    going_more = record { left = rw add-one rest-is }
 
 -- ---- all rows
 
-pub target-length : {img : List ℕ} {room : ℕ} {p : Plan} → Fits img room p → length (plan_entries img p) ≡ p.count
-target-length {img} {p = p} h = length-map (plan_rows img p) entry_of ∙ h.count
+pub target-length : {room : ℕ} {p : Plan} → Fits room p → length (plan_entries p) ≡ p.count
+target-length {p = p} h = length-map (plan_rows p) entry_of ∙ h.count

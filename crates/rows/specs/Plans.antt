@@ -9,7 +9,7 @@ use Rattle.rules.specs.FileAttrs.{FileAttr}
 use Rattle.image.specs.Meaning.{Kind, directory, file, symlink, special}
 use Rattle.survey.specs.declared.refusal.Refusal.{Refusal}
 use Rattle.layers.specs.Answered.{answered, filled_rows}
-use Rattle.merge.specs.Merges.{listed, Ready, decided_rows}
+use Rattle.merge.specs.Merges.{rows_decided}
 use Rattle.gather.specs.declared.gather.Listing.{Listing}
 use Rattle.gather.specs.declared.gather.Listing.TheVariants as L
 use Rattle.rows.specs.declared.listing.Entry.{Entry}
@@ -45,27 +45,26 @@ room_for room l = cond (ltb room (length l)) (refused 5) (answer (Some l))
 
 -- ---- a plan: the rows of a listing, and how many they are
 
-abbrev pub plan_rows : List ℕ → Plan → List Row
-plan_rows img p = decided_rows img (listed p.all)
+abbrev pub plan_rows : Plan → List Row
+plan_rows p = rows_decided p.all
 
-abbrev pub plan_entries : List ℕ → Plan → List Entry
-plan_entries img p = map entry_of (plan_rows img p)
+abbrev pub plan_entries : Plan → List Entry
+plan_entries p = map entry_of (plan_rows p)
 
 -- it has as many rows as it says, and there is room for them
-pub record Fits (img : List ℕ) (room : ℕ) (p : Plan) : Type 0 where
-  pub ready : Ready img (listed p.all)
-  pub count : length (plan_rows img p) ≡ p.count
+pub record Fits (room : ℕ) (p : Plan) : Type 0 where
+  pub count : length (plan_rows p) ≡ p.count
   pub small : p.count ≤ room
 
 -- these are its rows, if there is room for them
-pub record PlansRows (img : List ℕ) (l : List Row) (room : ℕ) (r : Result Plan Refusal) : Type 0 where
-  pub answers : answered (λ p. Some (plan_rows img p)) r ≡ room_for room l
-  pub fits : IfOk r (Fits img room)
+pub record PlansRows (l : List Row) (room : ℕ) (r : Result Plan Refusal) : Type 0 where
+  pub answers : answered (λ p. Some (plan_rows p)) r ≡ room_for room l
+  pub fits : IfOk r (Fits room)
 
 -- it answers this, within the room
-pub record Plans (img : List ℕ) (a : Answer (Option (List Row))) (room : ℕ) (r : Result (Option Plan) Refusal) : Type 0 where
-  pub answers : answered (map_if (plan_rows img)) r ≡ a
-  pub fits : IfOk r (λ o. IfSome o (Fits img room))
+pub record Plans (a : Answer (Option (List Row))) (room : ℕ) (r : Result (Option Plan) Refusal) : Type 0 where
+  pub answers : answered (map_if plan_rows) r ≡ a
+  pub fits : IfOk r (λ o. IfSome o (Fits room))
 
 -- the first are these, and the others stay
 pub record Fills (es old : List Entry) (n : ℕ) (new : List Entry) : Type 0 where

@@ -10,7 +10,7 @@ use attrs::node::FileAttr;
 use gather::gather::{Listing, gather_sources};
 use image::kind::FileType;
 use layers::attr::shown_attr;
-use merge::merge::{count_rows, next_given};
+use merge::merge::count_rows;
 use merge::sources::Sources;
 use stack::open::open_image;
 use stack::stack::Stack;
@@ -27,31 +27,30 @@ pub struct Entry {
 
 // The rows of a listing, and how many they are.
 #[derive(Clone, Copy)]
-pub struct Plan {
-    pub all: Sources,
+pub struct Plan<'a> {
+    pub all: Sources<'a>,
     pub count: usize,
 }
 
 // The rows of a stack, if there is room for them.
 fn plan_rows(stack: Stack, listing: Listing, room: usize) -> Result<Plan, Refusal>
-    ensures { PlansRows stack.entry.img.now (rows_in listing stack.entry) room result }
+    ensures { PlansRows (rows_in listing stack.entry) room result }
 {
     let all = gather_sources(stack, listing, None);
-    match count_rows(stack.img, all, room) {
+    match count_rows(all, room) {
         Some(count) => Ok(Plan { all, count }),
         None => Err(Refusal::NoRoom),
     }
 }
 
 // The one function over the rows lent: fills the first of them, and answers how many.
-fn fill_rows(img: &[u8], plan: Plan, rows: &mut [Entry]) -> usize
-    requires { Fits img.now (length rows.old) plan }
-    ensures { Fills (plan_entries img.now plan) rows.old result rows.new }
+fn fill_rows(plan: Plan, rows: &mut [Entry]) -> usize
+    requires { Fits (length rows.old) plan }
+    ensures { Fills (plan_entries plan.entry) rows.old result rows.new }
 {
-    let mut all = plan.all.rows;
-    let sources = &mut all[..plan.all.count];
+    let mut all = plan.all;
     for row in rows[..plan.count].iter_mut() {
-        let next = next_given(img, sources).unwrap();
+        let next = all.next().unwrap();
         *row = Entry {
             start: next.name.start,
             length: next.name.length,
@@ -81,7 +80,7 @@ fn plan_listing(
     listing: Listing,
     room: usize,
 ) -> Result<Option<Plan>, Refusal>
-    ensures { Plans img.now (list_call listing img.now ino room) room result }
+    ensures { Plans (list_call listing img.now ino room) room result }
 {
     let stack = open_image(img, ino)?;
     if is_listed(listing, shown_attr(stack, ino)) {
@@ -103,7 +102,7 @@ fn list(
 {
     let planned = plan_listing(img, ino, listing, rows.len())?;
     match planned {
-        Some(plan) => Ok(Some(fill_rows(img, plan, rows))),
+        Some(plan) => Ok(Some(fill_rows(plan, rows))),
         None => Ok(None),
     }
 }

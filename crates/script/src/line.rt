@@ -1,26 +1,40 @@
 // The words of a line.
 ghost use Rattle.std.specs.Prelude.{◌≤◌, length};
 
+use std::{io, str};
+
+// Answers each line of a list.
+pub fn replay<R: Print, A: Fn(&R, &[u8]) -> io::Result<()>>(
+    rt: &R,
+    list: &[u8],
+    answer: A,
+) -> io::Result<()>
+    requires { A.IsAlwaysCallable answer }
+{
+    for line in list.split_inclusive(|byte| *byte == b'\n') {
+        answer(rt, line.strip_suffix(b"\n").unwrap_or(line))?;
+    }
+    Ok(())
+}
+
 // The word of this number, counted from 0; none is the empty word.
 pub fn word(line: &[u8], number: usize) -> &[u8] {
     line.split(|byte| *byte == b' ').nth(number).unwrap_or(&[])
 }
 
-pub fn same(a: &[u8], b: &[u8]) -> bool {
-    a == b
+// A decimal number; the largest one where it is larger than that, or no number.
+pub fn decimal(word: &[u8]) -> u64 {
+    str::from_utf8(word)
+        .ok()
+        .and_then(|digits| digits.parse::<u64>().ok())
+        .unwrap_or(u64::MAX)
 }
 
-// A decimal number; the largest one where it is larger than that.
-pub fn decimal(word: &[u8]) -> u64 {
-    let mut value: u64 = 0;
-    for letter in word {
-        let last = digit(*letter) % 10;
-        if value > (0xFFFF_FFFF_FFFF_FFFF - last) / 10 {
-            return 0xFFFF_FFFF_FFFF_FFFF;
-        }
-        value = value * 10 + last;
-    }
-    value
+// As many as the word says, or as there are to lend.
+pub fn room(word: &[u8], most: usize) -> usize
+    ensures { result ≤ most }
+{
+    decimal(word).min(most as u64) as usize
 }
 
 // Puts the bytes that the hexadecimal word stands for at the start of `out`, and answers how many there are.
@@ -34,16 +48,7 @@ pub fn bytes(word: &[u8], out: &mut [u8]) -> usize
     pairs.len().min(out.len())
 }
 
-// What a digit, or a capital letter from A to F, stands for.
-fn digit(letter: u8) -> u64 {
-    if letter < b'0' {
-        return 0;
-    }
-    if letter <= b'9' {
-        return (letter - b'0') as u64;
-    }
-    if letter < b'A' {
-        return 0;
-    }
-    (letter - b'A') as u64 + 10
+// What a hexadecimal digit stands for.
+fn digit(letter: u8) -> u32 {
+    char::from(letter).to_digit(16).unwrap_or(0)
 }

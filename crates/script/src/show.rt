@@ -1,7 +1,7 @@
 // Writing answers to standard output. What cannot be written is answered as an error.
 use image::kind::FileType;
 use std::io;
-use wire::fault::Fault;
+use survey::refusal::Refusal;
 use wire::time::Time;
 
 pub fn text(rt: &impl Print, words: &[u8]) -> io::Result<()> {
@@ -12,22 +12,11 @@ pub fn number(rt: &impl Print, value: u64) -> io::Result<()> {
     print!(rt; "{value}")
 }
 
-pub fn signed(rt: &impl Print, value: i64) -> io::Result<()> {
-    print!(rt; "{value}")
-}
-
 pub fn hex(rt: &impl Print, bytes: &[u8]) -> io::Result<()> {
     for byte in bytes {
         print!(rt; "{byte:02X}")?;
     }
     Ok(())
-}
-
-pub fn fault(rt: &impl Print, why: Fault) -> io::Result<()> {
-    match why {
-        Fault::Ended => text(rt, b"ended"),
-        Fault::Malformed => text(rt, b"malformed"),
-    }
 }
 
 // How many bytes were read, and how the value is written.
@@ -36,8 +25,8 @@ pub fn written(rt: &impl Print, length: usize, bytes: &[u8]) -> io::Result<()> {
     hex(rt, bytes)
 }
 
-pub fn refused(rt: &impl Print, number: u32) -> io::Result<()> {
-    print!(rt; " = refused {number}")
+pub fn refused(rt: &impl Print, refusal: Refusal) -> io::Result<()> {
+    print!(rt; " = refused {}", refusal.number())
 }
 
 // A number behind others.
@@ -47,7 +36,7 @@ pub fn next(rt: &impl Print, value: u64) -> io::Result<()> {
 
 // A time behind others.
 pub fn time(rt: &impl Print, moment: Time) -> io::Result<()> {
-    print!(rt; " {}.{}", moment.seconds, moment.nanos)
+    print!(rt; " {moment}")
 }
 
 // Bytes as a word of the list has them.

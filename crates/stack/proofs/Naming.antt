@@ -33,19 +33,6 @@ module _ (name : Text) where
       go true e = rw (le-leb 1 (length name) h, lt-leb (length name) 255 (ltb-true 255 (length name) e))
       go false e = rw (le-leb 1 (length name) h, le-leb (length name) 255 (ltb-false 255 (length name) e))
 
--- ---- the image opened
-
-module _ {img : List ℕ} {i : ℕ} {name : Text} {o : Result Stack Refusal} (h : Opens img i o) where
-  pub named-stop : {f : Refusal} {r : Result Stack Refusal} → o ≡ Err f → r ≡ Err f → OpensNamed img i name r
-  named-stop d e = let g = rw d at h in rw e (record { verdict = rw (← g.verdict); stack = tt })
-
-  module _ {s : Stack} (d : o ≡ Ok s) where
-    pub named-bad : bad_name name ≡ true → OpensNamed img i name (Err BadName)
-    named-bad b = let g = rw d at h in record { verdict = rw (← g.verdict, b); stack = tt }
-
-    pub named-good : bad_name name ≡ false → OpensNamed img i name (Ok s)
-    named-good b = let g = rw d at h in record { verdict = rw (← g.verdict, b); stack = g.stack }
-
 -- ---- the calls
 
 module _ {img : List ℕ} {i : ℕ} {name : Text} {o : Result Stack Refusal} (w : OpensNamed img i name o) where
@@ -56,7 +43,8 @@ module _ {img : List ℕ} {i : ℕ} {name : Text} {o : Result Stack Refusal} (w 
       call : Store → Answer A
       call s = unless (first_of ((3, bad_name name) ∷ [])) (g s)
 
-      go : (v : Option Refusal) → verdict_of img ≡ v → (b : Bool) → bad_name name ≡ b → Some r ≡ named_verdict v name → over_image call img ≡ refused (number_of r)
+      go : (v : Option Refusal) → verdict_of img ≡ v → (b : Bool) → bad_name name ≡ b → Some r ≡ named_verdict v name → over_image call img ≡ refused
+          (number_of r)
       go (Some x) ev b eb n = verdict-refused call img r (ev ∙ sym n)
       go None ev true eb n =
           let s = verdict-fine img ev in

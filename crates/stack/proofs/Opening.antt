@@ -41,9 +41,6 @@ node-read img (Some p) None h = absurd h
 node-read img (Some p) (Some n) h = rw h.1 tt
 
 module _ {img : List ℕ} {i : ℕ} {o : Result Survey Refusal} (j : Judges img i o) where
-  pub opens-stop : {f : Refusal} {r : Result Stack Refusal} → o ≡ Err f → r ≡ Err f → Opens img i r
-  opens-stop d e = let g = rw d at j in rw e (record { verdict = g.verdict; stack = tt })
-
   module _ {s : Survey} (d : o ≡ Ok s) where
     -- an image that may be used has a stack for each inode
     pub survey-stacked : Stacked img s.stack

@@ -10,7 +10,6 @@ use native.Mathlib.Omega.{arith}
 use lib.ListN.{length, drop, get_or, length-take}
 use lib.Seq.{take-suc, get_or-take}
 use Rattle.wire.specs.declared.fault.Fault.{Fault}
-use Rattle.image.specs.NodeLayout.{node}
 use Rattle.image.specs.RecordLayout.{layer_record}
 use Rattle.survey.specs.declared.batch.InodeLayerStack.{InodeLayerStack}
 use Rattle.survey.specs.Gathering.{deltas_of}
@@ -58,19 +57,8 @@ module _ {img : List ℕ} {s : InodeLayerStack} (h : Stacked img s) where
   unfolding look
   shown-more R i l g = rw (records-more i l g)
 
-  -- the node of the stack is read whole
-  pub node-ok : {p : ℕ} {o : Result (N.Node × ℕ) Fault} → s.base ≡ Some p → ReadsNode img p o → IsOk o
-  node-ok {p} {o} e g = go o g
-    where
-      go : (o : Result (N.Node × ℕ) Fault) → ReadsNode img p o → IsOk o
-      go (Ok r) g = refl
-      go (Err f) g = let a : IsRead (node.read (drop p img)) = rw e at h.node in absurd (rw g.reads.same at a)
-
--- what was read at a place
-pub record_is : {img : List ℕ} {p end : ℕ} {e : EntryDelta} {o : Result (EntryDelta × ℕ) Fault} → ReadsEntry img p o → o ≡ Ok (e, end) → RecordIs img p e
-record_is {end = end} g d = record { end = end; reads = rw d at g }
-
-pub base-is : {img : List ℕ} {b : Option ℕ} {p end : ℕ} {n : N.Node} {o : Result (N.Node × ℕ) Fault} → b ≡ Some p → ReadsNode img p o → o ≡ Ok (n, end) → BaseIs img b (Some n)
+pub base-is : {img : List ℕ} {b : Option ℕ} {p end : ℕ} {n : N.Node} {o : Result (N.Node × ℕ) Fault} → b ≡ Some p → ReadsNode img p o → o ≡ Ok (n, end) →
+    BaseIs img b (Some n)
 base-is {end = end} e g d = rw e (record { end = end; reads = rw d at g })
 
 -- ---- the base

@@ -15,10 +15,7 @@ use std::ops::ControlFlow;
 pub fn base_type(base: Option<Node>) -> Option<FileType>
     ensures { (img : List ℕ) → type_of result ≡ base_type (node_meant_if img base) }
 {
-    match base {
-        Some(node) => Some(node.kind.file_type()),
-        None => None,
-    }
+    base.map(|node| node.kind.file_type())
 }
 
 // The type that a record shows, whatever is below it.

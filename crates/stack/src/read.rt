@@ -16,7 +16,7 @@ impl Stack<'_> {
         Some(node)
     }
 
-    // One of the records, counted from the lowest.
+    // One of the records, counted from the lowest. That there are so many is a clause, as at any index.
     pub fn record(self, i: usize) -> EntryDelta
         requires { i < self.places.count }
         ensures { RecordIn self.entry i result }

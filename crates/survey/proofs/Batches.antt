@@ -75,53 +75,55 @@ going_start h b e = record {
   base_kept = b.base_kept;
 }
 
-module _ {img : List ℕ} {sought first n here left : ℕ} {base last : Option ℕ} {now : InodeLayerStack} (w : Going img sought first n base last here left now) where
-  pub going-all : left ≤ 0 → Gathers img sought first n base (Ok (record { stack = now; last = last }, here))
-  unfolding batch_places
-  going-all h = record {
-    ends = passed-all w.rows h;
-    gathered = record {
-      last = passed-last w.rows h;
-      places = sym (append-nil (deltas_of now)) ∙ ap (λ (l : List ℕ). deltas_of now ++ l) (none-places left h) ∙ w.places;
-      base_kept = w.base_kept;
-      few = omega (arith, w.few);
-      wide = w.wide;
-    };
-  }
-    where
-      none-places : (k : ℕ) → k ≤ 0 → [] ≡ batch_places (length img) sought k (drop here img)
-      none-places zero h = refl
-      none-places (suc k) h = absurd (omega arith)
+module _ {img : List ℕ} {sought first n here left : ℕ} {base last : Option ℕ} {now : InodeLayerStack} (w : Going img sought first n base last here left now)
+  where
+    pub going-all : left ≤ 0 → Gathers img sought first n base (Ok (record { stack = now; last = last }, here))
+    unfolding batch_places
+    going-all h = record {
+      ends = passed-all w.rows h;
+      gathered = record {
+        last = passed-last w.rows h;
+        places = sym (append-nil (deltas_of now)) ∙ ap (λ (l : List ℕ). deltas_of now ++ l) (none-places left h) ∙ w.places;
+        base_kept = w.base_kept;
+        few = omega (arith, w.few);
+        wide = w.wide;
+      };
+    }
+      where
+        none-places : (k : ℕ) → k ≤ 0 → [] ≡ batch_places (length img) sought k (drop here img)
+        none-places zero h = refl
+        none-places (suc k) h = absurd (omega arith)
 
-  module _ (h : 0 < left) {o : Result (ℕ × ℕ) Fault} (a : Reads img (only (after by_number last) inode).read here o) where
-    -- the id stops
-    pub going-unkeyed : {f : Fault} {r : Result (Batches × ℕ) Fault} → o ≡ Err f → r ≡ Err f → Gathers img sought first n base r
-    going-unkeyed d e = rw e (record { ends = passed-unkeyed w.rows h a d refl; gathered = tt })
+    module _ (h : 0 < left) {o : Result (ℕ × ℕ) Fault} (a : Reads img (only (after by_number last) inode).read here o) where
+      -- the id stops
+      pub going-unkeyed : {f : Fault} {r : Result (Batches × ℕ) Fault} → o ≡ Err f → r ≡ Err f → Gathers img sought first n base r
+      going-unkeyed d e = rw e (record { ends = passed-unkeyed w.rows h a d refl; gathered = tt })
 
-    module _ {j m : ℕ} (d : o ≡ Ok (j, m)) {u : Result ℕ Fault} (b : Ends img head_rest.read m u) where
-      -- the rest of the head stops
-      pub going-headless : {f : Fault} {r : Result (Batches × ℕ) Fault} → u ≡ Err f → r ≡ Err f → Gathers img sought first n base r
-      going-headless c e = rw e (record { ends = passed-stop w.rows h a d (rest-stop b c) refl refl; gathered = tt })
+      module _ {j m : ℕ} (d : o ≡ Ok (j, m)) {u : Result ℕ Fault} (b : Ends img head_rest.read m u) where
+        -- the rest of the head stops
+        pub going-headless : {f : Fault} {r : Result (Batches × ℕ) Fault} → u ≡ Err f → r ≡ Err f → Gathers img sought first n base r
+        going-headless c e = rw e (record { ends = passed-stop w.rows h a d (rest-stop b c) refl refl; gathered = tt })
 
-      module _ {k : ℕ} (c : u ≡ Ok k) {v : Result (Option ℕ × ℕ) Fault} (f : Finds img H.Record sought k v) where
-        -- the records stop
-        pub going-stop : {y : Fault} {r : Result (Batches × ℕ) Fault} → v ≡ Err y → r ≡ Err y → Gathers img sought first n base r
-        going-stop z e = let g = rw z at f in rw e (record { ends = passed-stop w.rows h a d (rest-ends b c g.ends) refl refl; gathered = tt })
+        module _ {k : ℕ} (c : u ≡ Ok k) {v : Result (Option ℕ × ℕ) Fault} (f : Finds img H.Record sought k v) where
+          -- the records stop
+          pub going-stop : {y : Fault} {r : Result (Batches × ℕ) Fault} → v ≡ Err y → r ≡ Err y → Gathers img sought first n base r
+          going-stop z e = let g = rw z at f in rw e (record { ends = passed-stop w.rows h a d (rest-ends b c g.ends) refl refl; gathered = tt })
 
-        pub going_on : {place : Option ℕ} {q left2 : ℕ} {new : InodeLayerStack} → v ≡ Ok (place, q) → Pushed now place new → left2 ≡ left - 1
-            → Going img sought first n base (Some j) q left2 new
-        going_on {place} z p e =
-            let g = rw z at f in
-            let i = rw d at a in
-            let key : Ends img inode.read here (Ok m) = ends-read {o = Ok (j, m)} (record { same = key-read last (drop here img) i.same; within = i.within }) refl in
-            let head : Ends img batch_head.read here (Ok k) = ends-then head_rest.read (λ a b. (a, b)) key refl (rw c at b) in
-            rw e (record {
-              rows = passed_on w.rows h a d (rest-ends b c g.ends) refl refl;
-              places = rw (p.places, append_assoc, ← (places-step sought left place h head g.ends g.found)) w.places;
-              few = omega (arith, p.few, w.few);
-              wide = p.wide;
-              base_kept = p.base ∙ w.base_kept;
-            })
+          pub going_on : {place : Option ℕ} {q left2 : ℕ} {new : InodeLayerStack} → v ≡ Ok (place, q) → Pushed now place new → left2 ≡ left - 1
+              → Going img sought first n base (Some j) q left2 new
+          going_on {place} z p e =
+              let g = rw z at f in
+              let i = rw d at a in
+              let key : Ends img inode.read here (Ok m) = ends-read {o = Ok (j, m)} (record { same = key-read last (drop here img) i.same; within = i.within })
+              refl in
+              let head : Ends img batch_head.read here (Ok k) = ends-then head_rest.read (λ a b. (a, b)) key refl (rw c at b) in
+              rw e (record {
+                rows = passed_on w.rows h a d (rest-ends b c g.ends) refl refl;
+                places = rw (p.places, append_assoc, ← (places-step sought left place h head g.ends g.found)) w.places;
+                few = omega (arith, p.few, w.few);
+                wide = p.wide;
+                base_kept = p.base ∙ w.base_kept;
+              })
 
 -- ---- the whole list, its count first
 

@@ -3,3 +3,4 @@ pub mod Batches
 pub mod Stores
 pub mod Surveyed
 pub mod OneForm
+pub mod Numbered

@@ -51,7 +51,8 @@ batches_of (p ∷ l) = batch_of p ∷ batches_of l
 abbrev pub batches_read : Parsed (List (ℕ × BatchRest)) → Parsed (List Batch)
 batches_read o = bind o (λ l r. got (batches_of l) r)
 
-made : (p : ℕ × BatchRest) (o : Parsed (List (ℕ × BatchRest))) → bind (batches_read o) (λ l q. got (batch_of p ∷ l) q) ≡ batches_read (bind o (λ l q. got (p ∷ l) q))
+made : (p : ℕ × BatchRest) (o : Parsed (List (ℕ × BatchRest))) → bind (batches_read o) (λ l q. got (batch_of p ∷ l) q) ≡ batches_read
+    (bind o (λ l q. got (p ∷ l) q))
 unfolding batches_of
 made p (fault f) = refl
 made p (got l q) = refl
@@ -59,7 +60,8 @@ made p (got l q) = refl
 -- one batch, and those after it
 first_made : (o : Parsed (ℕ × BatchRest)) (k : ℕ → List ℕ → Parsed (List Batch)) (j : ℕ → List ℕ → Parsed (List (ℕ × BatchRest)))
     → ((i : ℕ) (r : List ℕ) → k i r ≡ batches_read (j i r))
-    → bind (bind o (λ p r. got (batch_of p) r)) (λ b r. bind (k b.id r) (λ l q. got (b ∷ l) q)) ≡ batches_read (bind o (λ p r. bind (j p.0 r) (λ l q. got (p ∷ l) q)))
+    → bind (bind o (λ p r. got (batch_of p) r)) (λ b r. bind (k b.id r) (λ l q. got (b ∷ l) q)) ≡ batches_read
+    (bind o (λ p r. bind (j p.0 r) (λ l q. got (p ∷ l) q)))
 unfolding batches_of
 first_made (fault f) k j h = refl
 first_made (got p r) k j h = rw (h p.0 r) (made p (j p.0 r))
@@ -68,10 +70,12 @@ chain-batches : (n : ℕ) (prev : Option ℕ) (s : List ℕ) → chain_read batc
 unfolding batch_after batches_of
 chain-batches zero prev s = refl
 chain-batches (suc n) prev s =
-    first_made ((row by_number inode batch_rest prev).read s) (λ i r. chain_read batch_after id_of n (Some i) r) (λ i r. rows_from by_number inode batch_rest n (Some i) r)
+    first_made ((row by_number inode batch_rest prev).read s) (λ i r. chain_read batch_after id_of n (Some i) r)
+    (λ i r. rows_from by_number inode batch_rest n (Some i) r)
     (λ i r. chain-batches n (Some i) r)
 
-counted-made : (o : Parsed ℕ) → bind o (λ n r. chain_read batch_after id_of n None r) ≡ batches_read (bind o (λ n r. rows_from by_number inode batch_rest n None r))
+counted-made : (o : Parsed ℕ) → bind o (λ n r. chain_read batch_after id_of n None r) ≡ batches_read
+    (bind o (λ n r. rows_from by_number inode batch_rest n None r))
 counted-made (fault f) = refl
 counted-made (got n r) = chain-batches n None r
 
@@ -165,7 +169,8 @@ module _ {img : List ℕ} where
   ends-batches {at} h = record { same = batches-passed (drop at img) ∙ h.same; within = h.within }
 
   -- the batches and what follows them
-  ends-queue : {at q : ℕ} {r : Result ℕ Fault} {last : Option ℕ} → Ends img queue_rows.read at (Ok q) → last_of None (queue_rows.read (drop at img)) ≡ got last (drop q img)
+  ends-queue : {at q : ℕ} {r : Result ℕ Fault} {last : Option ℕ} → Ends img queue_rows.read at (Ok q) → last_of None (queue_rows.read (drop at img)) ≡ got
+      last (drop q img)
       → Ends img (records then tail_after last).read q r → Ends img (seq batches rest_of).read at r
   ends-queue {at} {q} {last = last} h d g =
       let e = ends-got h in

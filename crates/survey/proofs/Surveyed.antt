@@ -140,20 +140,24 @@ module _ (img : List ℕ) (i : ℕ) where
       let u = suffix-rest batch_head batch_head-one w a.headed in
       let v = suffix-rest records records-one u a.recorded in
       rw (a.headed, a.recorded)
-      (hold-more img layer_record.read (record_place (length img) i a.mid) (get by_number i (batch_of e).records) (batch_places (length img) i n q) (batch_records i bs)
+      (hold-more img layer_record.read (record_place (length img) i a.mid) (get by_number i (batch_of e).records) (batch_places (length img) i n q)
+      (batch_records i bs)
       (record-holds a.mid u a.recorded) (ih v))
 
-  none-batches : (s : List ℕ) (l : List (ℕ × BatchRest)) → [] ≡ l → AllHold img layer_record.read (batch_places (length img) i 0 s) (batch_records i (batches_of l))
+  none-batches : (s : List ℕ) (l : List (ℕ × BatchRest)) → [] ≡ l → AllHold img layer_record.read (batch_places (length img) i 0 s)
+      (batch_records i (batches_of l))
   unfolding batch_places batches_of
   none-batches s [] e = tt
   none-batches s (x ∷ l) e = absurd (let z : ◌≡◌ {A = ℕ} 0 1 = cc in omega arith)
 
-  batches-hold : (n : ℕ) (prev : Option ℕ) (s : List ℕ) {l : List (ℕ × BatchRest)} {r : List ℕ} → Suffix img s → rows_from by_number inode batch_rest n prev s ≡ got l r
+  batches-hold : (n : ℕ) (prev : Option ℕ) (s : List ℕ) {l : List (ℕ × BatchRest)} {r : List ℕ} → Suffix img s → rows_from by_number inode batch_rest n prev s
+      ≡ got l r
       → AllHold img layer_record.read (batch_places (length img) i n s) (batch_records i (batches_of l))
   unfolding batches_of
   batches-hold zero prev s {l} w d = none-batches s l cc
   batches-hold (suc n) prev s {l} {r} w d =
-      let x = bind_inv ((row by_number inode batch_rest prev).read s) (λ a t. bind (rows_from by_number inode batch_rest n (Some a.0) t) (λ m q. got (a ∷ m) q)) d in
+      let x = bind_inv ((row by_number inode batch_rest prev).read s) (λ a t. bind (rows_from by_number inode batch_rest n (Some a.0) t)
+      (λ m q. got (a ∷ m) q)) d in
       let y = bind_inv (rows_from by_number inode batch_rest n (Some x.0.0) x.1) (λ m q. got (x.0 ∷ m) q) x.3 in
       let e1 : got (x.0 ∷ y.0) y.1 ≡ got l r = y.3 in
       let el : x.0 ∷ y.0 ≡ l = cc in
@@ -163,7 +167,8 @@ module _ (img : List ℕ) (i : ℕ) where
 -- ---- the whole survey
 
 -- where a construct that was read ends
-ends-place : {A : Type 0} {img : List ℕ} {p : List ℕ → Parsed A} {n m : ℕ} {a : A} {t : List ℕ} → Ends img p n (Ok m) → p (drop n img) ≡ got a t → drop m img ≡ t
+ends-place : {A : Type 0} {img : List ℕ} {p : List ℕ → Parsed A} {n m : ℕ} {a : A} {t : List ℕ} → Ends img p n (Ok m) → p (drop n img) ≡ got a t → drop m img
+    ≡ t
 ends-place {img = img} {m = m} {a} {t} h e = let d = rw e at h.same in cc
 
 pub read_whole : (s : List ℕ) {st : Store} → read_image s ≡ got st [] → store.read s ≡ got st []

@@ -64,7 +64,8 @@ fn pass_head_rest(img: &[u8], at: usize) -> Result<usize, Fault>
     Moment::pass(img, committed)
 }
 
-// Passes `count` batches, the first of which is at `first`, and gathers the places of the records that they hold of one inode.
+// Passes `count` batches, the first of which is at `first`, and gathers the places of the records that they hold of one inode. That they are at
+// most 16 is a clause, for the places of the stack.
 #[tactic(auto, using(crate::proofs::Batches::gathers))]
 fn gather_batches(
     img: &[u8],

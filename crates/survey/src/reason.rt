@@ -1,8 +1,8 @@
 // Why a batch is frozen.
-ghost use Rattle.std.specs.Prelude.{◌≡◌, ◌≤◌, ◌<◌, None, refl};
+ghost use Rattle.std.specs.Prelude.{◌≡◌, ◌≤◌, refl};
 ghost use Rattle.wire.specs.Number.{between};
 ghost use Rattle.wire.specs.Reading.{Reads, meant};
-ghost use Rattle.survey.specs.Reasons.{reason_number, request_number};
+ghost use Rattle.survey.specs.Reasons.{reason_number, ReasonOf};
 
 use wire::fault::Fault;
 use wire::number::read_number;
@@ -18,24 +18,28 @@ pub enum Reason {
 }
 
 impl Reason {
-    // Its number in the image.
+    // Its number in the image: a method and no `From`, so that a call says what the number is.
     pub fn number(self) -> u64
         ensures { (result ≡ reason_number self) × (result ≤ 5) }
     {
         self as u64
     }
+}
 
-    // The reason of this number; none if it is not 1 to 5.
-    pub fn numbered(number: u64) -> Option<Reason>
-        ensures { (number ≤ 5 → request_number result ≡ number) × (5 < number → result ≡ None) }
-    {
+// The reason of a number; one that is none of 1 to 5 is badly formed.
+impl TryFrom<u64> for Reason {
+    type Error = Fault;
+
+    ghost try_from_gives = { ReasonOf };
+
+    fn try_from(number: u64) -> Result<Reason, Fault> {
         match number {
-            1 => Some(Reason::Fsync),
-            2 => Some(Reason::Fsyncdir),
-            3 => Some(Reason::Quiesce),
-            4 => Some(Reason::Periodic),
-            5 => Some(Reason::Threshold),
-            _ => None,
+            1 => Ok(Reason::Fsync),
+            2 => Ok(Reason::Fsyncdir),
+            3 => Ok(Reason::Quiesce),
+            4 => Ok(Reason::Periodic),
+            5 => Ok(Reason::Threshold),
+            _ => Err(Fault::Malformed),
         }
     }
 }
@@ -45,8 +49,6 @@ pub fn read_reason(img: &[u8], at: usize) -> Result<(Reason, usize), Fault>
     ensures { Reads img.now (between 1 5 refl).read at (meant reason_number result) }
 {
     let (number, next) = read_number(img, at, 5)?;
-    let Some(reason) = Reason::numbered(number) else {
-        return Err(Fault::Malformed);
-    };
+    let reason = Reason::try_from(number)?;
     Ok((reason, next))
 }

@@ -32,7 +32,7 @@ pub enum Refusal {
 }
 
 impl Refusal {
-    // Its number, which a caller from C is given.
+    // Its number, which a caller from C is given: a method and no `From`, so that a call says what the number is.
     pub fn number(self) -> u32
         ensures { result ≡ number_of self }
     {

@@ -2,13 +2,18 @@
 -- Assumes nothing.
 use Rattle.std.specs.Prelude.{None, Option, Some}
 use mathlib.Core.Path.{◌≡◌, refl, sym, ap, ◌∙◌, subst}
-use mathlib.Core.Logic.{⊎_elim}
 use Prim.Native.Nat.{ℕ, zero, suc, ◌+◌, ◌-◌, ◌≤◌, ◌<◌}
 use native.Mathlib.Omega.{arith}
-use Rattle.wire.specs.Number.{lt-or-ge}
 use Rattle.wire.specs.Orders.{by_bytes}
 use Rattle.wire.specs.Maps.{get, meet}
 use Rattle.image.specs.Meaning.{Text, Body, Node, Change, Record, directory, file, symlink, special, tombstone, delta}
+use Rattle.image.specs.declared.name.Under.{Under}
+use Rattle.image.specs.declared.name.Under.TheVariants as U
+use Rattle.image.specs.Under.{under}
+use Rattle.image.specs.Places.{Holds}
+use Rattle.nodes.specs.Listed.{list_at}
+use Rattle.lookup.specs.Search.{Finds}
+use Rattle.lookup.specs.declared.list.NameList.{NameList}
 use Rattle.rules.specs.Reads.{child, change_child, step_child, body_child, base_child}
 use Rattle.nodes.specs.declared.node.Node as N
 use Rattle.deltas.specs.declared.delta.EntryDelta.{EntryDelta}
@@ -20,6 +25,13 @@ use Rattle.stack.proofs.Walks.{shown-more, shown-base}
 use Rattle.trace.specs.Said.{entry_says, change_says, record_says, body_says, base_says, says, over, says_at, SaysRecord, SaysBase, Speaks, SpeaksAt, Decides}
 use Rattle.trace.specs.declared.said.Said.{Said}
 use Rattle.trace.specs.declared.said.Said.TheVariants.{Nothing, NoChild, Child}
+
+-- ---- a list of entries
+
+-- what is found under a name, where inodes stand under the names
+pub entry_found : (l : NameList) (name : Text) (o : Option ℕ) → l.what ≡ U.Inode → Finds l name o
+    → Holds l.img.now (under U.Inode).read o (get by_bytes name (list_at l.img.now U.Inode l.place))
+entry_found l name o e f = subst (λ (u : Under). Holds l.img.now (under u).read o (get by_bytes name (list_at l.img.now u l.place))) e f
 
 -- ---- the child lookup is what a layer says, over what is below it
 
@@ -84,23 +96,10 @@ pub record Silent (s : Stack) (name : Text) (layer : ℕ) : Type 0 where
   pub above : (n : ℕ) → layer < n → n ≤ s.places.count → says_at s name n ≡ Nothing
   pub looked : shown_in (child name) s ≡ shown_lowest (child name) s layer
 
-pub silent-start : (s : Stack) (name : Text) → Silent s name s.places.count
-silent-start s name = record { low = omega arith; above = λ n l h. absurd (omega arith); looked = refl }
-
 module _ {s : Stack} {name : Text} {layer : ℕ} (w : Silent s name layer) where
-  pub decides-base : layer ≤ 0 → Decides s name 0
-  decides-base z = let e : layer ≡ 0 = omega arith in record { low = omega arith; above = rw e at w.above; speaks = tt; looked = rw e at w.looked }
-
   module _ (l : 0 < layer) {r : Said} (k : SaysRecord s name (layer - 1) r) where
     here : layer - 1 + 1 ≡ layer
     here = omega arith
-
-    pub silent-on : r ≡ Nothing → Silent s name (layer - 1)
-    silent-on e = record {
-      low = omega (arith, w.low);
-      above = λ n a h. ⊎_elim (λ b. w.above n b h) (λ b. let z : n ≡ layer = omega arith in rw (z, ← here) (sym k.itself ∙ e)) (lt-or-ge layer n);
-      looked = w.looked ∙ rw here at k.looked ∙ rw e;
-    }
 
     decides-here : Speaks r → Decides s name layer
     decides-here t = record { low = w.low; above = w.above; speaks = go layer (rw here at k.itself); looked = w.looked }
@@ -121,6 +120,3 @@ decided s name i r d k t = d.looked ∙ k.looked ∙ go r t
     go Nothing t = absurd t
     go NoChild t = refl
     go (Child j) t = refl
-
-pub decided-base : (s : Stack) (name : Text) (r : Said) → Decides s name 0 → SaysBase s name r → shown_in (child name) s ≡ over r None
-decided-base s name r d k = d.looked ∙ k.looked

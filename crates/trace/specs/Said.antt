@@ -1,13 +1,13 @@
 -- Document 01: "Child: from the top. Tombstone: none. Directory delta: removed name, none; else added name, its inode; else go on below. Other
 -- kind: none. Last, a base directory's entries." Here each layer by itself.
-use Rattle.std.specs.Prelude.{◌≡◌, List, ℕ, zero, suc, ◌+◌, ◌≤◌, ◌<◌, None, Option, Some}
+use Rattle.std.specs.Prelude.{◌≡◌, ℕ, zero, suc, ◌+◌, ◌≤◌, ◌<◌, None, Option, Some}
 use Rattle.wire.specs.Orders.{by_bytes}
 use Rattle.wire.specs.Maps.{get, meet}
 use Rattle.image.specs.Meaning.{Text, Body, Node, Change, Record, directory, file, symlink, special, tombstone, delta}
 use Rattle.image.specs.declared.name.Under.TheVariants as U
 use Rattle.rules.specs.Reads.{Read, child}
 use Rattle.nodes.specs.Listed.{list_at}
-use Rattle.wire.specs.declared.part.Part.{Part}
+use Rattle.lookup.specs.declared.list.NameList.{NameList}
 use Rattle.stack.specs.InStack.{shown_lowest, shown_in}
 use Rattle.stack.specs.declared.stack.Stack.{Stack}
 use Rattle.trace.specs.declared.said.Said.{Said}
@@ -62,8 +62,8 @@ Speaks (Child i) = Unit {0}
 -- ---- the layers of a stack: the base is layer 0, and record i is layer i + 1
 
 -- the entries of a list
-abbrev pub SaysList : List ℕ → Part → Text → Said → Type 0
-SaysList img p name r = r ≡ entry_says (get by_bytes name (list_at img U.Inode p))
+abbrev pub SaysList : NameList → Text → Said → Type 0
+SaysList l name r = r ≡ entry_says (get by_bytes name (list_at l.img.now U.Inode l.place))
 
 module _ (s : Stack) (name : Text) where
   -- what layer n says

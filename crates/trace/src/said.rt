@@ -4,17 +4,15 @@ ghost use Rattle.image.specs.declared.name.Under.TheVariants as U;
 ghost use Rattle.deltas.specs.Deltas.{entry_meant};
 ghost use Rattle.stack.specs.Stacks.{node_meant_if};
 ghost use Rattle.stack.specs.Questions.{RecordRead, BaseRead};
-ghost use Rattle.lookup.specs.Search.{IsList};
 ghost use Rattle.trace.specs.Said.{SaysList, record_says, base_says, SaysRecord, SaysBase, Decides};
 
 use deltas::delta::{EntryDelta, NodeDelta};
 use image::field::Inode;
 use image::name::Under;
-use lookup::search::find_name;
+use lookup::list::NameList;
 use nodes::field::ReadField;
 use nodes::node::{Node, NodeKind};
 use stack::stack::Stack;
-use wire::part::Part;
 
 // Nothing, so that the layers below are asked; that there is no such child; or its inode. No `ControlFlow<Option<u64>>`: the program shows each
 // of the three in words.
@@ -26,13 +24,14 @@ pub enum Said {
 }
 
 // What a list of entries says.
-fn entry_in(img: &[u8], list: Part, name: &[u8]) -> Said
-    requires { IsList img.now U.Inode list }
-    ensures { SaysList img.now list name.now result }
+#[tactic(auto, using(crate::proofs::Saying::entry_found))]
+fn entry_in(list: NameList, name: &[u8]) -> Said
+    requires { list.what ≡ U.Inode }
+    ensures { SaysList list.entry name.now result }
 {
-    match find_name(img, list, Under::Inode, name) {
+    match list.find(name) {
         Some(at) => {
-            let (inode, _) = Inode::read(img, at).unwrap();
+            let (inode, _) = Inode::read(list.img, at).unwrap();
             Said::Child(inode)
         }
         None => Said::Nothing,
@@ -47,9 +46,19 @@ fn record_in(img: &[u8], entry: EntryDelta, name: &[u8]) -> Said
     let EntryDelta::Node(NodeDelta::Directory(directory)) = entry else {
         return Said::NoChild;
     };
-    match find_name(img, directory.removed, Under::Nothing, name) {
+    let removed = NameList {
+        img,
+        place: directory.removed,
+        what: Under::Nothing,
+    };
+    let added = NameList {
+        img,
+        place: directory.added,
+        what: Under::Inode,
+    };
+    match removed.find(name) {
         Some(_) => Said::NoChild,
-        None => entry_in(img, directory.added, name),
+        None => entry_in(added, name),
     }
 }
 
@@ -62,7 +71,14 @@ fn node_in(img: &[u8], node: Option<Node>, name: &[u8]) -> Said
         return Said::NoChild;
     };
     match node.kind {
-        NodeKind::Directory { parent: _, entries } => entry_in(img, entries, name),
+        NodeKind::Directory { parent: _, entries } => {
+            let list = NameList {
+                img,
+                place: entries,
+                what: Under::Inode,
+            };
+            entry_in(list, name)
+        }
         _ => Said::NoChild,
     }
 }

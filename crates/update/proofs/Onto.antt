@@ -157,7 +157,8 @@ module _ {img : List ℕ} {at : ℕ} (o : Result (Option FileType × ℕ) Fault)
 
           -- the delta with the fields given over its own
           merged-bytes : (a : AttrDelta) (given : List ℕ) (last : ℕ) → ListedIf given U.Change a.xattrs last
-              → number_bytes (suc (kind_number (kind_meant k))) ++ (attr_bytes (attr_over a b) ++ (changes_anew img given a.xattrs b.xattrs ++ between img end after))
+              → number_bytes (suc (kind_number (kind_meant k)))
+              ++ (attr_bytes (attr_over a b) ++ (changes_anew img given a.xattrs b.xattrs ++ between img end after))
               ≡ layer_record.write (merged_delta given a d)
           merged-bytes a given last h =
               let s : code_meant (Some k) ≡ Some (changed_kind d.change) = rw y at (code-is after d w) in

@@ -5,11 +5,12 @@ ghost use Rattle.rules.specs.ChangeCalls.{update_attr_delta};
 ghost use Rattle.change.specs.Changed.{Changes};
 ghost use Rattle.update.specs.Updates.{WholeFields, Onto, Updates, new_delta};
 
-use change::cut::cut_records;
+use change::cut::{RecordOf, cut_at};
 use change::section::{Sections, open_inode};
 use fields::fields::attr_over;
 use image::kind::{FileType, read_code};
 use nodes::attr::{AttrDelta, read_attr_delta};
+use overlay::list::Copied;
 use overlay::record::{NewChange, NewRecord, Updated};
 use overlay::write::{NewLive, replaced, unchanged, write_record};
 use stack::file_type::Type;
@@ -31,7 +32,12 @@ pub fn update_attr_delta(
         return Err(Refusal::BadArgument);
     };
     let new = with_fields(stack, sections, ino, fields);
-    write_record(img, delta, delta, sections, new, target)
+    let copied = Copied {
+        img,
+        given: delta,
+        new_name: delta,
+    };
+    write_record(copied, sections, new, target)
 }
 
 // The fields that these bytes are, if no bytes are left over.
@@ -52,7 +58,7 @@ fn whole_fields(bytes: &[u8]) -> Option<AttrDelta>
 fn with_fields(stack: Stack, sections: Sections, ino: u64, fields: AttrDelta) -> NewLive
     ensures { Updates stack.entry sections ino fields result }
 {
-    let cut = cut_records(stack.img, sections.live, ino);
+    let cut = cut_at(stack.img, sections.live, &RecordOf { ino });
     match cut.place {
         Some(at) => replaced(cut, ino, onto_live(stack.img, at, fields)),
         None => match decided(stack, &Type) {

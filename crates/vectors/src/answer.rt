@@ -1,6 +1,6 @@
 // One line of the list, and its answer.
 use crate::reads;
-use script::line::{bytes, decimal, same, word};
+use script::line::{bytes, decimal, word};
 use script::show;
 use std::cmp::Ordering;
 use std::io;
@@ -14,23 +14,14 @@ use wire::time::{put_time, read_time};
 
 pub fn answer(rt: &impl Print, line: &[u8]) -> io::Result<()> {
     show::text(rt, line)?;
-    let call = word(line, 0);
-    if same(call, b"number") {
-        number(rt, line)?;
+    match word(line, 0) {
+        b"number" => number(rt, line)?,
+        b"text" => text(rt, line)?,
+        b"time" => time(rt, line)?,
+        b"compare" => order(rt, line)?,
+        b"image" => image(rt, line)?,
+        _ => reads::answer(rt, line)?,
     }
-    if same(call, b"text") {
-        text(rt, line)?;
-    }
-    if same(call, b"time") {
-        time(rt, line)?;
-    }
-    if same(call, b"compare") {
-        order(rt, line)?;
-    }
-    if same(call, b"image") {
-        image(rt, line)?;
-    }
-    reads::answer(rt, line)?;
     show::text(rt, b"\n")
 }
 
@@ -41,19 +32,9 @@ fn number(rt: &impl Print, line: &[u8]) -> io::Result<()> {
     match read_number(&input[..length], 0, decimal(word(line, 1))) {
         Ok((value, end)) => {
             show::number(rt, value)?;
-            let mut output = [0u8; 512];
-            let stop = put_number(&mut output, 0, value);
-            show::written(
-                rt,
-                end,
-                Part {
-                    start: 0,
-                    length: stop,
-                }
-                .of(&output),
-            )
+            written(rt, end, |output| put_number(output, 0, value))
         }
-        Err(why) => show::fault(rt, why),
+        Err(why) => print!(rt; "{why}"),
     }
 }
 
@@ -67,19 +48,9 @@ fn text(rt: &impl Print, line: &[u8]) -> io::Result<()> {
         Ok((text, end)) => {
             show::number(rt, text.start as u64)?;
             show::next(rt, text.length as u64)?;
-            let mut output = [0u8; 512];
-            let stop = put_text(&mut output, 0, text.of(&input));
-            show::written(
-                rt,
-                end,
-                Part {
-                    start: 0,
-                    length: stop,
-                }
-                .of(&output),
-            )
+            written(rt, end, |output| put_text(output, 0, text.of(&input)))
         }
-        Err(why) => show::fault(rt, why),
+        Err(why) => print!(rt; "{why}"),
     }
 }
 
@@ -89,22 +60,24 @@ fn time(rt: &impl Print, line: &[u8]) -> io::Result<()> {
     let length = bytes(word(line, 1), &mut input);
     match read_time(&input[..length], 0) {
         Ok((moment, end)) => {
-            show::signed(rt, moment.seconds)?;
+            print!(rt; "{}", moment.seconds)?;
             show::next(rt, moment.nanos as u64)?;
-            let mut output = [0u8; 512];
-            let stop = put_time(&mut output, 0, moment);
-            show::written(
-                rt,
-                end,
-                Part {
-                    start: 0,
-                    length: stop,
-                }
-                .of(&output),
-            )
+            written(rt, end, |output| put_time(output, 0, moment))
         }
-        Err(why) => show::fault(rt, why),
+        Err(why) => print!(rt; "{why}"),
     }
+}
+
+// How many bytes were read, and how the value is written.
+fn written<P: Fn(&mut [u8]) -> usize>(rt: &impl Print, length: usize, put: P) -> io::Result<()>
+    requires { P.IsAlwaysCallable put }
+{
+    let mut output = [0u8; 512];
+    let part = Part {
+        start: 0,
+        length: put(&mut output),
+    };
+    show::written(rt, length, part.of(&output))
 }
 
 fn order(rt: &impl Print, line: &[u8]) -> io::Result<()> {

@@ -3,7 +3,7 @@ use crate::lend;
 use attrs::node::FileAttr;
 use layers::{attr as file_attr, layers as reads};
 use lookup::child::lookup_child;
-use script::line::{bytes, decimal, same, word};
+use script::line::{bytes, decimal, word};
 use script::show;
 use std::io;
 use survey::refusal::Refusal;
@@ -11,35 +11,18 @@ use xattrs::xattr::{get_xattr, has_xattr};
 
 // The answer of a line that asks for a read; of another line nothing.
 pub fn answer(rt: &impl Print, line: &[u8]) -> io::Result<()> {
-    let call = word(line, 0);
-    if same(call, b"exists") {
-        exists(rt, line)?;
+    match word(line, 0) {
+        b"exists" => exists(rt, line),
+        b"type" => file_type(rt, line),
+        b"child" => child(rt, line),
+        b"attr" => attr(rt, line),
+        b"list" => lend::list(rt, line),
+        b"link" => link(rt, line),
+        b"parent" => parent(rt, line),
+        b"xattr" => xattr(rt, line),
+        b"names" => lend::names(rt, line),
+        _ => Ok(()),
     }
-    if same(call, b"type") {
-        file_type(rt, line)?;
-    }
-    if same(call, b"child") {
-        child(rt, line)?;
-    }
-    if same(call, b"attr") {
-        attr(rt, line)?;
-    }
-    if same(call, b"list") {
-        lend::list(rt, line)?;
-    }
-    if same(call, b"link") {
-        link(rt, line)?;
-    }
-    if same(call, b"parent") {
-        parent(rt, line)?;
-    }
-    if same(call, b"xattr") {
-        xattr(rt, line)?;
-    }
-    if same(call, b"names") {
-        lend::names(rt, line)?;
-    }
-    Ok(())
 }
 
 fn exists(rt: &impl Print, line: &[u8]) -> io::Result<()> {
@@ -47,7 +30,7 @@ fn exists(rt: &impl Print, line: &[u8]) -> io::Result<()> {
     let length = bytes(word(line, 2), &mut image);
     let found = reads::exists(&image[..length], decimal(word(line, 1)));
     match found {
-        Err(refusal) => show::refused(rt, refusal.number()),
+        Err(refusal) => show::refused(rt, refusal),
         Ok(false) => show::text(rt, b" = no"),
         Ok(true) => show::text(rt, b" = yes"),
     }
@@ -58,7 +41,7 @@ fn file_type(rt: &impl Print, line: &[u8]) -> io::Result<()> {
     let length = bytes(word(line, 2), &mut image);
     let found = reads::file_type(&image[..length], decimal(word(line, 1)));
     match found {
-        Err(refusal) => show::refused(rt, refusal.number()),
+        Err(refusal) => show::refused(rt, refusal),
         Ok(None) => show::text(rt, b" = none"),
         Ok(Some(kind)) => {
             show::text(rt, b" = ")?;
@@ -85,7 +68,7 @@ fn parent(rt: &impl Print, line: &[u8]) -> io::Result<()> {
 
 fn inode(rt: &impl Print, found: Result<Option<u64>, Refusal>) -> io::Result<()> {
     match found {
-        Err(refusal) => show::refused(rt, refusal.number()),
+        Err(refusal) => show::refused(rt, refusal),
         Ok(None) => show::text(rt, b" = none"),
         Ok(Some(number)) => {
             show::text(rt, b" = inode ")?;
@@ -99,7 +82,7 @@ fn attr(rt: &impl Print, line: &[u8]) -> io::Result<()> {
     let length = bytes(word(line, 2), &mut image);
     let found = file_attr::attr(&image[..length], decimal(word(line, 1)));
     match found {
-        Err(refusal) => show::refused(rt, refusal.number()),
+        Err(refusal) => show::refused(rt, refusal),
         Ok(None) => show::text(rt, b" = none"),
         Ok(Some(shown)) => {
             show::text(rt, b" = ")?;
@@ -147,7 +130,7 @@ fn xattr(rt: &impl Print, line: &[u8]) -> io::Result<()> {
 // A text, and the answer of the call beside it.
 fn text(rt: &impl Print, found: Result<bool, Refusal>, value: &[u8]) -> io::Result<()> {
     match found {
-        Err(refusal) => show::refused(rt, refusal.number()),
+        Err(refusal) => show::refused(rt, refusal),
         Ok(false) => show::text(rt, b" = none"),
         Ok(true) => {
             show::text(rt, b" = text ")?;

@@ -6,190 +6,132 @@ use flush::flush::{fold_entries, snapshot_all};
 use normalize::normalize::normalize_directory_deltas;
 use overlay::live::{insert_new_node, tombstone};
 use queue::queue::{freeze_live, pop_flushed_batch, record_mutation, request};
-use script::line::{bytes, decimal, same, word};
+use script::line::{bytes, decimal, room, word};
 use script::show;
-use std::io;
+use std::{io, str};
 use survey::refusal::Refusal;
 use update::update::update_attr_delta;
 use wire::part::Part;
 use wire::time::Time;
 
-#[derive(Clone, Copy)]
-enum Call {
-    Insert,
-    Tombstone,
-    Add,
-    Remove,
-    SetParent,
-    Update,
-    Normalise,
-    Freeze,
-    Fold,
-    Pop,
-    Note,
-    Request,
-    Snapshot,
-}
-
 // Writes the line, and the answer of the change that it asks for.
 pub fn answer(rt: &impl Print, line: &[u8]) -> io::Result<()> {
     show::text(rt, line)?;
-    let call = word(line, 0);
-    change_live(rt, line, call)?;
-    change_layers(rt, line, call)?;
+    change_live(rt, line)?;
+    change_layers(rt, line)?;
     show::text(rt, b"\n")
 }
 
 // Changes of one inode's live record.
-fn change_live(rt: &impl Print, line: &[u8], call: &[u8]) -> io::Result<()> {
-    if same(call, b"insert") {
-        replay(rt, line, Call::Insert, 3)?;
+fn change_live(rt: &impl Print, line: &[u8]) -> io::Result<()> {
+    let ino = decimal(word(line, 1));
+    let parent = decimal(word(line, 2));
+    let child = decimal(word(line, 3));
+    match word(line, 0) {
+        b"insert" => replay(
+            rt,
+            line,
+            3,
+            |img, given, target| insert_new_node(img, ino, given, target),
+        ),
+        b"tombstone" => replay(rt, line, 2, |img, _, target| tombstone(img, ino, target)),
+        b"add" => replay(
+            rt,
+            line,
+            6,
+            |img, given, target| add_dir_entry(img, ino, given, child, moment(line, 4), target),
+        ),
+        b"remove" => replay(
+            rt,
+            line,
+            5,
+            |img, given, target| remove_dir_entry(img, ino, given, moment(line, 3), target),
+        ),
+        b"setparent" => replay(
+            rt,
+            line,
+            3,
+            |img, _, target| update_dir_parent(img, ino, parent, target),
+        ),
+        b"update" => replay(
+            rt,
+            line,
+            3,
+            |img, given, target| update_attr_delta(img, ino, given, target),
+        ),
+        _ => Ok(()),
     }
-    if same(call, b"tombstone") {
-        replay(rt, line, Call::Tombstone, 2)?;
-    }
-    if same(call, b"add") {
-        replay(rt, line, Call::Add, 6)?;
-    }
-    if same(call, b"remove") {
-        replay(rt, line, Call::Remove, 5)?;
-    }
-    if same(call, b"setparent") {
-        replay(rt, line, Call::SetParent, 3)?;
-    }
-    if same(call, b"update") {
-        replay(rt, line, Call::Update, 3)?;
-    }
-    Ok(())
 }
 
 // Changes of whole layers, and of the queue.
-fn change_layers(rt: &impl Print, line: &[u8], call: &[u8]) -> io::Result<()> {
-    if same(call, b"normalise") {
-        replay(rt, line, Call::Normalise, 2)?;
+fn change_layers(rt: &impl Print, line: &[u8]) -> io::Result<()> {
+    let first = decimal(word(line, 1));
+    let second = decimal(word(line, 2));
+    let third = decimal(word(line, 3));
+    match word(line, 0) {
+        b"normalise" => replay(
+            rt,
+            line,
+            2,
+            |img, _, target| normalize_directory_deltas(img, first, target),
+        ),
+        b"freeze" => replay(
+            rt,
+            line,
+            6,
+            |img, _, target| freeze_live(img, first, second, third, moment(line, 4), target),
+        ),
+        b"fold" => replay(rt, line, 1, |img, _, target| fold_entries(img, target)),
+        b"pop" => replay(
+            rt,
+            line,
+            2,
+            |img, _, target| pop_flushed_batch(img, first, target),
+        ),
+        b"note" => replay(
+            rt,
+            line,
+            2,
+            |img, _, target| record_mutation(img, first, target),
+        ),
+        b"request" => replay(rt, line, 2, |img, _, target| request(img, first, target)),
+        b"snapshot" => replay(rt, line, 1, |img, _, target| snapshot_all(img, target)),
+        _ => Ok(()),
     }
-    if same(call, b"freeze") {
-        replay(rt, line, Call::Freeze, 6)?;
-    }
-    if same(call, b"fold") {
-        replay(rt, line, Call::Fold, 1)?;
-    }
-    if same(call, b"pop") {
-        replay(rt, line, Call::Pop, 2)?;
-    }
-    if same(call, b"note") {
-        replay(rt, line, Call::Note, 2)?;
-    }
-    if same(call, b"request") {
-        replay(rt, line, Call::Request, 2)?;
-    }
-    if same(call, b"snapshot") {
-        replay(rt, line, Call::Snapshot, 1)?;
-    }
-    Ok(())
 }
 
-// The room and the image are the last two words.
-fn replay(rt: &impl Print, line: &[u8], call: Call, last: usize) -> io::Result<()>
-    requires { last ≤ 6 }
+// Lends a change the image, the second word as bytes, and a target, and writes what it answers. The target's room and the image are the last
+// two words.
+fn replay<C: Fn(&[u8], &[u8], &mut [u8]) -> Result<usize, Refusal>>(
+    rt: &impl Print,
+    line: &[u8],
+    last: usize,
+    change: C,
+) -> io::Result<()>
+    requires few { last ≤ 6 }
+    requires callable { C.IsAlwaysCallable change }
 {
     let mut image = [0u8; 512];
     let mut given = [0u8; 512];
     let mut target = [0u8; 512];
-    lend(rt, line, call, last, &mut image, &mut given, &mut target)
-}
-
-// Lends the image, the second word as bytes, and a target.
-fn lend(
-    rt: &impl Print,
-    line: &[u8],
-    call: Call,
-    last: usize,
-    image: &mut [u8],
-    given: &mut [u8],
-    target: &mut [u8],
-) -> io::Result<()>
-    requires { last ≤ 6 }
-{
-    let length = bytes(word(line, last + 1), image);
-    let count = bytes(word(line, 2), given);
-    let room = room_of(word(line, last), target.len());
-    let img = Part { start: 0, length }.of(image);
-    let text = Part {
-        start: 0,
-        length: count,
-    };
-    show_change(rt, line, call, img, text.of(given), &mut target[..room])
-}
-
-// At most as long a target as there is to lend.
-fn room_of(word: &[u8], most: usize) -> usize
-    ensures { result ≤ most }
-{
-    let length = decimal(word);
-    if length < (most as u64) {
-        return length as usize;
-    }
-    most
-}
-
-fn show_change(
-    rt: &impl Print,
-    line: &[u8],
-    call: Call,
-    img: &[u8],
-    given: &[u8],
-    target: &mut [u8],
-) -> io::Result<()> {
-    match change(line, call, img, given, target) {
-        Err(refusal) => show::refused(rt, refusal.number()),
+    let length = bytes(word(line, last + 1), &mut image);
+    let count = bytes(word(line, 2), &mut given);
+    let room = room(word(line, last), 512);
+    match change(&image[..length], &given[..count], &mut target[..room]) {
+        Err(refusal) => show::refused(rt, refusal),
         Ok(length) => {
             show::text(rt, b" = image ")?;
-            show::word(rt, Part { start: 0, length }.of(target))
+            show::word(rt, Part { start: 0, length }.of(&target))
         }
-    }
-}
-
-fn change(
-    line: &[u8],
-    call: Call,
-    img: &[u8],
-    given: &[u8],
-    target: &mut [u8],
-) -> Result<usize, Refusal> {
-    let first = decimal(word(line, 1));
-    let second = decimal(word(line, 2));
-    let third = decimal(word(line, 3));
-    match call {
-        Call::Insert => insert_new_node(img, first, given, target),
-        Call::Tombstone => tombstone(img, first, target),
-        Call::Add => add_dir_entry(img, first, given, third, moment(line, 4), target),
-        Call::Remove => remove_dir_entry(img, first, given, moment(line, 3), target),
-        Call::SetParent => update_dir_parent(img, first, second, target),
-        Call::Update => update_attr_delta(img, first, given, target),
-        Call::Normalise => normalize_directory_deltas(img, first, target),
-        Call::Freeze => freeze_live(img, first, second, third, moment(line, 4), target),
-        Call::Fold => fold_entries(img, target),
-        Call::Pop => pop_flushed_batch(img, first, target),
-        Call::Note => record_mutation(img, first, target),
-        Call::Request => request(img, first, target),
-        Call::Snapshot => snapshot_all(img, target),
     }
 }
 
 // Seconds, their sign before them.
 fn seconds(word: &[u8]) -> i64 {
-    let Some((sign, digits)) = word.split_first() else {
-        return 0;
-    };
-    let size = decimal(digits);
-    if 0x7FFF_FFFF_FFFF_FFFF < size {
-        return 0;
-    }
-    if *sign == b'-' {
-        return -(size as i64);
-    }
-    size as i64
+    str::from_utf8(word)
+        .ok()
+        .and_then(|digits| digits.parse::<i64>().ok())
+        .unwrap_or(0)
 }
 
 // A time of two words, seconds and nanoseconds.

@@ -15,17 +15,11 @@ mod changes;
 
 use changes::answer;
 use input::fill;
+use script::line::replay;
 use std::io;
 
 fn main(rt: HostRuntime) -> io::Result<()> {
     let mut list = [0u8; 262144];
     let length = fill(&mut rt.stdin(), &mut list)?;
-    replay(&rt, &list[..length])
-}
-
-fn replay(rt: &impl Print, list: &[u8]) -> io::Result<()> {
-    for line in list.split_inclusive(|byte| *byte == b'\n') {
-        answer(rt, line.strip_suffix(b"\n").unwrap_or(line))?;
-    }
-    Ok(())
+    replay(&rt, &list[..length], |rt, line| answer(rt, line))
 }

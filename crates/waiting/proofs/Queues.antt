@@ -1,21 +1,22 @@
 -- The bytes and operations of all batches of a queue.
 -- Assumes nothing.
-use mathlib.Core.Path.{◌≡◌, refl, ap, ◌∙◌}
+use mathlib.Core.Path.{◌≡◌, refl, ap, subst, ◌∙◌}
 use mathlib.Core.List.{List, [], ◌∷◌, ◌++◌, append_assoc}
 use Prim.Native.Nat.{ℕ, zero, suc, ◌+◌, ◌*◌, ◌-◌, ◌≤◌, ◌<◌}
 use native.Mathlib.Omega.{arith}
 use lib.ListN.{length, drop}
 use Rattle.std.specs.Prelude.{Result, Ok, Err}
-use Rattle.std.specs.Result.{result_unwrap_or}
 use Rattle.wire.specs.declared.fault.Fault.{Fault}
-use Rattle.wire.proofs.Readers.{number-most}
-use Rattle.wire.specs.Number.{number_read}
+use Rattle.image.specs.Rows.{RowsAt}
+use Rattle.image.specs.declared.rows.Rows.{Rows}
+use Rattle.image.proofs.Listed.{rows-read}
 use Rattle.wire.specs.Lists.{Every}
 use Rattle.wire.specs.Reading.{Reads, meant}
 use Rattle.image.specs.Meaning.{Batch}
 use Rattle.image.specs.Fits.{FitsBatch}
 use Rattle.rules.specs.Refusals.{sum_of}
-use Rattle.waiting.specs.Queues.{head_bytes, head_operations, sum_from, Totalled}
+use Rattle.waiting.specs.Queues.{head_bytes, head_operations, sum_from, Totalled, QueueAt}
+use Rattle.waiting.specs.declared.batch.Queue.{Queue}
 use Rattle.writers.specs.Batches.{head_meant}
 use Rattle.writers.specs.declared.batch.BatchHead.{BatchHead}
 use Rattle.change.specs.Batches.{HeadParts, pass_batch}
@@ -78,13 +79,11 @@ module _ {img : List ℕ} {first n here left b o : ℕ} (w : Totalling img first
           few_operations = omega (arith, w.few_operations);
         }
 
--- the count
-pub few-read : {img : List ℕ} {at : ℕ} {o : Result (ℕ × ℕ) Fault} {x : ℕ × ℕ} → Reads img (number_read 16) at o → x ≡ result_unwrap_or o (0, 0) → x.0 ≤ 16
-few-read {img} {at} {o} a e = rw e (few o a)
-  where
-    few : (o : Result (ℕ × ℕ) Fault) → Reads img (number_read 16) at o → (result_unwrap_or o (0, 0)).0 ≤ 16
-    few (Ok y) a = number-most a refl
-    few (Err f) a = omega arith
+-- the batches at a place, by their count
+pub queue-at : {img : List ℕ} {at : ℕ} {x : Rows} {r : Queue} → RowsAt img 16 at x → Totalled img x.first x.count r → QueueAt img at r
+queue-at {img} {r = r} h t =
+    let o = rows-read h in
+    record { count = o.0; reads = o.1; totals = subst (λ (x : ℕ × ℕ). Totalled img x.1 x.0 r) o.2 t }
 
 -- ---- of batches that were written
 

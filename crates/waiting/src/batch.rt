@@ -3,7 +3,7 @@ ghost use Rattle.std.specs.Prelude.{◌≤◌};
 ghost use Rattle.waiting.specs.Queues.{QueueAt, Totalled};
 
 use change::batch::pass_batch;
-use wire::number::read_number;
+use image::rows::{Rows, rows_at};
 
 // The queue: the place of its first batch, how many there are, and their bytes and operations in all.
 #[derive(Clone, Copy)]
@@ -18,19 +18,19 @@ pub struct Queue {
 pub fn read_queue(img: &[u8], at: usize) -> Queue
     ensures { QueueAt img.now at result }
 {
-    let (count, first) = read_number(img, at, 16).unwrap_or((0, 0));
-    total_batches(img, first, count)
+    let rows = rows_at(img, at, 16);
+    total_batches(img, rows)
 }
 
-// `count` batches, the first of which is at `first`.
-fn total_batches(img: &[u8], first: usize, count: u64) -> Queue
-    requires { count ≤ 16 }
-    ensures { Totalled img.now first count result }
+// The bytes and operations of these batches. That they are at most 16 is a clause, for the sums.
+fn total_batches(img: &[u8], rows: Rows) -> Queue
+    requires { rows.count ≤ 16 }
+    ensures { Totalled img.now rows.first rows.count result }
 {
-    let mut here = first;
+    let mut here = rows.first;
     let mut bytes: u64 = 0;
     let mut operations: u64 = 0;
-    for _ in 0..count {
+    for _ in 0..rows.count {
         let Ok((head, end)) = pass_batch(img, here) else {
             break;
         };
@@ -39,8 +39,8 @@ fn total_batches(img: &[u8], first: usize, count: u64) -> Queue
         here = end;
     }
     Queue {
-        first,
-        count,
+        first: rows.first,
+        count: rows.count,
         bytes,
         operations,
     }

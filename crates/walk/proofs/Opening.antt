@@ -2,20 +2,19 @@
 -- Assumes nothing.
 use Rattle.std.specs.Prelude.{None, Option, Some, Result, Ok, Err}
 use mathlib.Core.Path.{◌≡◌, refl, sym, ap, ◌∙◌}
-use mathlib.Core.Bool.{Bool, true, false}
+use mathlib.Core.Logic.{⊎_elim}
 use mathlib.Core.List.{List, [], ◌∷◌, ◌++◌, map, append_assoc, append-nil}
-use Prim.Native.Nat.{ℕ, zero, suc, ◌+◌, ◌-◌, ◌≤◌, ◌<◌}
+use Prim.Native.Nat.{ℕ, zero, suc, ◌+◌, ◌-◌, ◌*◌, ◌≤◌, ◌<◌}
 use native.Mathlib.Omega.{arith}
 use native.Mathlib.Numerals.{add-one}
-use lib.Dec.{ltb}
-use lib.ListN.{length, take, drop, get_or, set}
-use Rattle.std.proofs.lemmas.List.{length-set, take_more, take_more_set}
+use lib.ListN.{length, take, drop, get_or, set, length-map}
+use Rattle.std.specs.List.{All}
+use Rattle.std.proofs.lemmas.List.{length-append, length-drop, length-set, take_all, take_at, take_more, take_more_set}
 use Rattle.std.proofs.lemmas.List.Elements.{All-nil, All-push}
-use borrow.Author.Tests.{ltb-true, ltb-false}
 use Rattle.std.specs.Result.{result_unwrap_or}
 use Rattle.wire.specs.declared.fault.Fault.{Fault}
 use Rattle.wire.specs.Combinators.{◌then◌}
-use Rattle.wire.specs.Number.{number_bytes, number_read, number-back}
+use Rattle.wire.specs.Number.{edge, number_bytes, number-back, lt-or-ge}
 use Rattle.wire.specs.Orders.{by_number}
 use Rattle.wire.specs.Maps.{Map, empty}
 use Rattle.wire.specs.Lists.{Every, FitsRow, chain_write, row, onto, last_count}
@@ -25,6 +24,10 @@ use Rattle.image.specs.Meaning.{Base, Layer, Batch, Store}
 use Rattle.image.specs.Fits.{FitsBatch, FitsStore}
 use Rattle.image.specs.FieldLayout.{inode, listed}
 use Rattle.image.specs.NodeLayout.{node}
+use Rattle.image.specs.StoreLayout.{batches}
+use Rattle.image.specs.Rows.{RowsAt}
+use Rattle.image.specs.declared.rows.Rows.{Rows}
+use Rattle.image.proofs.Listed.{rows-read}
 use Rattle.image.specs.RecordLayout.{layer_record, records}
 use Rattle.survey.specs.Gathering.{batch_head}
 use Rattle.passes.specs.Held.{HeldUnder, held, Finds}
@@ -33,7 +36,9 @@ use Rattle.passes.specs.declared.inode.Held.{Held}
 use Rattle.passes.specs.declared.inode.Held.TheVariants as H
 use Rattle.rules.specs.Stacks.{with_live, layers}
 use Rattle.rules.proofs.MapValues.{map_row, map-rising}
-use Rattle.merge.specs.Pile.{Ascend}
+use Rattle.merge.specs.Pile.{Ascend, total}
+use Rattle.merge.proofs.Few.{pile-few}
+use Rattle.walk.specs.Walks.{laying, stacks_of}
 use Rattle.change.specs.Batches.{HeadParts}
 use Rattle.change.specs.Sections.{Spans, Stands}
 use Rattle.change.specs.declared.section.Sections.{Sections}
@@ -43,11 +48,10 @@ use Rattle.change.proofs.Queued.{stands-counted, stands-count, stands-queue}
 use Rattle.writers.specs.Batches.{head_meant}
 use Rattle.writers.specs.declared.batch.BatchHead.{BatchHead}
 use Rattle.walk.specs.Runs.{of_node, of_record, piece, Row, rows_read, list_rows, run_rows, Sound, ListOf}
-use Rattle.walk.specs.Walks.{layers_over, sources_of}
-use Rattle.walk.specs.Opens.{node_rows, record_rows, layers_on, lead, layer_bytes, layer_at, Starts, LayersOf, OpensLayers}
+use Rattle.walk.specs.Ready.{layers_over, sources_in, Ready}
+use Rattle.walk.specs.Opens.{node_rows, record_rows, layers_on, lead, layer_bytes, layer_at, TopAt, OpensLayers}
 use Rattle.walk.specs.declared.run.Run.{Run}
-use Rattle.walk.specs.declared.walk.Walk.{Walk}
-use Rattle.walk.proofs.Stepping.{over-set}
+use Rattle.walk.proofs.Stepping.{sources_to, over-set}
 
 -- ---- the rows of a list that was written
 
@@ -122,6 +126,44 @@ layer-first (b ∷ []) live zero h = simp append_assoc
 layer-first (b ∷ (a ∷ bs)) live zero h = simp append_assoc
 layer-first (b ∷ bs) live (suc i) h = layer-first bs live i (omega arith)
 
+-- ---- a number holds the count of the rows
+
+Small : Layer → Type 0
+Small l = length l.rows ≤ last_count
+
+total-on : (ls : List Layer) (ss : List (List Row)) → Every Small ls → total (layers_on ls ss) ≤ length ls * last_count + total ss
+unfolding layers_on total Small
+total-on [] ss h = omega arith
+total-on (l ∷ ls) ss h = omega (arith, total-on ls (record_rows l ∷ ss) h.1, h.0, length-map l.rows (map_row by_number of_record))
+
+layers-small : (bs : List Batch) (live : Layer) → Every FitsBatch bs → Small live → Every Small (with_live bs live)
+unfolding Small
+layers-small [] live h k = (k, tt)
+layers-small (b ∷ bs) live h k = (let c = h.0.records.count in omega arith, layers-small bs live h.1 k)
+
+every_take : {A : Type 0} (P : A → Type 0) (n : ℕ) (l : List A) → Every P l → Every P (take n l)
+every_take P zero l h = tt
+every_take P (suc n) [] h = tt
+every_take P (suc n) (a ∷ l) h = (h.0, every_take P n l h.1)
+
+take-few : {A : Type 0} (n : ℕ) (l : List A) → length (take n l) ≤ length l
+take-few zero l = omega arith
+take-few (suc n) [] = omega arith
+take-few (suc n) (a ∷ l) = omega (arith, take-few n l)
+
+few-layers : (s : Store) → FitsStore s → length (layers s) ≤ 17
+unfolding batches
+few-layers s f = let c = f.batches.count in omega (arith, count-layers s.batches s.live)
+
+rows-few : (s : Store) (n : ℕ) → FitsStore s → total (layers_on (take n (layers s)) (node_rows s.base ∷ [])) ≤ edge
+unfolding total Small
+rows-few s n f =
+    let ls = take n (layers s) in
+    let small : Every Small ls = every_take Small n (layers s) (layers-small s.batches s.live f.batches.each (let c = f.live.count in omega arith)) in
+    let rows = total-on ls (node_rows s.base ∷ []) small in
+    let c = f.base.count in
+    omega (arith, rows, take-few n (layers s), few-layers s f, length-map s.base.rows (map_row by_number of_node))
+
 -- ---- the loop
 
 -- what is known of the image where the walk starts
@@ -132,143 +174,175 @@ pub record Given (img : List ℕ) (s : Store) (batches first n tail : ℕ) : Typ
   pub stands : Spans img first (layer_bytes s.batches s.live 0) tail
   pub many : n ≤ length (layers s)
 
-pub record Opening (img : List ℕ) (n batches first end top : ℕ) (base : Run) (runs : List Run) (i : ℕ) : Type 0 where
+-- of the n layers the lowest i are opened
+pub record Opening (img : List ℕ) (n batches first end top : ℕ) (base : Option Run) (runs : List (Option Run)) (i : ℕ) : Type 0 where
   pub low : i ≤ n
-  pub wide : length runs ≡ 17
-  pub opened : (s : Store) (tail : ℕ) → Given img s batches first n tail → LayersOf img s tail i (record { base = base; layers = runs; count = i }) top end
+  pub wide : length runs ≡ n
+  pub sound : All (Sound img H.Record) (take i runs)
+  pub are : (s : Store) (tail : ℕ) → Given img s batches first n tail → sources_to img base runs i ≡ layers_on (take i (layers s)) (node_rows s.base ∷ [])
+  pub at : (s : Store) (tail : ℕ) → Given img s batches first n tail → TopAt img s tail i top end
 
-module _ {img : List ℕ} {base : Run} (o : ListOf img H.Node 0 base) where
-  pub opening-start : {runs : List Run} → length runs ≡ 17 → {n batches first : ℕ} → Opening img n batches first first first base runs 0
-  unfolding layers_on layers_over
-  opening-start l = record {
-    low = omega arith;
-    wide = l;
-    opened = λ s tail g.
-        let are = o.are ∙ g.nodes in
-        record {
-          over = record {
-            ready = record {
-              whole = record { few = record { few = omega arith; wide = l }; base = o.sound; layers = All-nil (Sound img H.Record) };
-              ascend = rw are (over-ascend s.base []);
-            };
-            are = rw are;
-          };
-          top = λ h. absurd (omega arith);
-          rest = g.stands;
-        };
-  }
+pub opening-start : {img : List ℕ} {base : Option Run} → ListOf img H.Node 0 base → {n batches first : ℕ} {runs : List (Option Run)} → length runs ≡ n
+    → Opening img n batches first first first base runs 0
+unfolding layers_on layers_over
+opening-start {img} o l = record {
+  low = omega arith;
+  wide = l;
+  sound = All-nil (Sound img H.Record);
+  are = λ s tail g. rw (o.are ∙ g.nodes);
+  at = λ s tail g. record { top = λ h. absurd (omega arith); rest = g.stands };
+}
 
--- where the records of a layer start
-starts-at : {img : List ℕ} (s : Store) (i : ℕ) {batches here q : ℕ} {o : Result ℕ Fault} → FitsStore s → batches ≡ length s.batches → Starts img here (ltb i batches) o
-    → Spans img here (lead s.batches i) q → o ≡ Ok q
-starts-at {img} s i {batches} {here} {q} {o} f e t w = go (ltb i batches) refl t
-  where
-    go : (b : Bool) → ltb i batches ≡ b → Starts img here b o → o ≡ Ok q
-    go true d t =
-        let k = ltb-true i batches d in
-        let l = lead-batch s.batches i f.batches.each (omega arith) in
-        let z = rw l.1 at w in
-        let p = ends-past batch_head {a = l.0} here (omega (arith, z.ends, z.within)) l.2 z.is (t.headed refl) in
-        let y : p.0 ≡ q = omega (arith, p.2.spans.ends, z.ends) in
-        p.1 ∙ ap Ok y
-    go false d t =
-        let k = ltb-false i batches d in
-        let z = rw (lead-live s.batches i (omega arith)) at w in
-        let y : here ≡ q = omega (arith, z.ends) in
-        t.plain refl ∙ ap Ok y
+-- where the records of layer i start, which is from `here`: after the head of a batch
+pub record Starts (img : List ℕ) (batches i here at : ℕ) : Type 0 where
+  pub headed : i < batches → (o : Result ℕ Fault) × Ends img batch_head.read here o × (at ≡ result_unwrap_or o 0)
+  pub plain : batches ≤ i → at ≡ here
 
-module _ {img : List ℕ} {n batches first end top : ℕ} {base : Run} {runs : List Run} {i : ℕ}
-    (g : Opening img n batches first end top base runs i) (h : i < n) (k : n ≤ 17)
-    {o : Result ℕ Fault} (t : Starts img end (ltb i batches) o) {at : ℕ} (ta : at ≡ result_unwrap_or o 0) {run : Run} (l : ListOf img H.Record at run)
+module _ {img : List ℕ} {batches i here : ℕ} where
+  pub starts-head : i < batches → {o : Result ℕ Fault} → Ends img batch_head.read here o → {at : ℕ} → at ≡ result_unwrap_or o 0 → Starts img batches i here at
+  starts-head h e u = record { headed = λ k. (_, e, u); plain = λ k. absurd (omega arith) }
+
+  pub starts-plain : batches ≤ i → Starts img batches i here here
+  starts-plain h = record { headed = λ k. absurd (omega arith); plain = λ k. refl }
+
+starts-at : {img : List ℕ} (s : Store) (i : ℕ) {batches here at q : ℕ} → FitsStore s → batches ≡ length s.batches → Starts img batches i here at
+    → Spans img here (lead s.batches i) q → at ≡ q
+starts-at {img} s i {batches} {here} {at} {q} f e t w =
+    ⊎_elim
+    (λ (h : i < batches).
+    let l = lead-batch s.batches i f.batches.each (omega (arith, e)) in
+    let z = rw l.1 at w in
+    let x = t.headed h in
+    let p = ends-past batch_head {a = l.0} here (omega (arith, z.ends, z.within)) l.2 z.is x.1 in
+    let y : p.0 ≡ q = omega (arith, p.2.spans.ends, z.ends) in
+    value-is 0 p.1 x.2 ∙ y)
+    (λ (h : batches ≤ i).
+    let z = rw (lead-live s.batches i (omega (arith, e))) at w in
+    t.plain h ∙ (let y : here ≡ q = omega (arith, z.ends) in y))
+    (lt-or-ge i batches)
+
+module _ {img : List ℕ} {n batches first end top : ℕ} {base : Option Run} {runs : List (Option Run)} {i : ℕ}
+    (g : Opening img n batches first end top base runs i) (h : i < n) {at : ℕ} (t : Starts img batches i end at)
+    {run : Option Run} (l : ListOf img H.Record at run)
     {u : Result ℕ Fault} (e : Ends img records.read at u) {to : ℕ} (te : to ≡ result_unwrap_or u 0) where
-  -- the walk with one layer more
-  abbrev walk : ℕ → Walk
-  walk n = record { base = base; layers = set runs i run; count = n }
+  -- the layer i, where it stands
+  record Layered (s : Store) (tail : ℕ) : Type 0 where
+    rows : run_rows img H.Record run ≡ record_rows (layer_at s i)
+    spans : Spans img at (records.write (layer_at s i)) to
+    rest : Spans img to (layer_bytes s.batches s.live (suc i)) tail
 
-  layer-opened : (s : Store) (tail : ℕ) → Given img s batches first n tail → LayersOf img s tail (i + 1) (walk (i + 1)) at to
-  layer-opened s tail v =
-      let w = g.opened s tail v in
+  layered : (s : Store) (tail : ℕ) → Given img s batches first n tail → Layered s tail
+  layered s tail v =
       let bs = s.batches in
       let x = layer_at s i in
       let many = v.many in
       let lt : i < length (layers s) = omega arith in
       let fits = layer_fits bs s.live i v.fits.batches.each (live-fits s v.fits) lt in
       let after = layer_bytes bs s.live (suc i) in
-      let whole : Spans img end (lead bs i ++ (records.write x ++ after)) tail = rw (layer-first bs s.live i lt) at w.rest in
-      let z : at ≡ end + length (lead bs i) = value-is 0 (starts-at s i v.fits v.count t (span-front (lead bs i) (records.write x ++ after) whole)) ta in
+      let stands = (g.at s tail v).rest in
+      let whole : Spans img end (lead bs i ++ (records.write x ++ after)) tail = rw (layer-first bs s.live i lt) at stands in
+      let z : at ≡ end + length (lead bs i) = starts-at s i v.fits v.count t (span-front (lead bs i) (records.write x ++ after) whole) in
       let b : Spans img at (records.write x ++ after) tail = rw z (span-back (lead bs i) (records.write x ++ after) whole) in
       let d : drop at img ≡ records.write x ++ (after ++ drop tail img) = b.is ∙ append_assoc (records.write x) after (drop tail img) in
-      let first = span-front (records.write x) after b in
-      let p = ends-past records {a = x} at (omega (arith, first.within)) fits d e in
+      let here = span-front (records.write x) after b in
+      let p = ends-past records {a = x} at (omega (arith, here.within)) fits d e in
       let y : to ≡ at + length (records.write x) = value-is 0 p.1 te ∙ p.2.spans.ends in
-      let rows : run_rows img H.Record run ≡ record_rows x = rw (l.are, d) (list-are H.Record x (after ++ drop tail img) fits) in
-      let wide = g.wide in
-      let lent : take (i + 1) (layers s) ≡ take i (layers s) ++ (x ∷ []) = take_more (layers s) i (empty by_number) lt in
-      let are : sources_of img (walk (i + 1)) ≡ layers_on (take (i + 1) (layers s)) (node_rows s.base ∷ []) =
-      rw (over-set img runs i run (run_rows img H.Node base ∷ []) (omega arith), rows, w.over.are, lent, layers-snoc) in
       record {
-        over = record {
-          ready = record {
-            whole = record {
-              few = record { few = omega arith; wide = length-set runs i run ∙ wide };
-              base = w.over.ready.whole.base;
-              layers = rw (take_more_set runs i run (omega arith)) (All-push (Sound img H.Record) (take i runs) run w.over.ready.whole.layers l.sound);
-            };
-            ascend = rw are (over-ascend s.base (take (i + 1) (layers s)));
-          };
-          are = are;
-        };
-        top = λ j. let q : i + 1 - 1 ≡ i = omega arith in rw (q, y) first;
-        rest = rw (y, add-one) (span-back (records.write x) after b);
+        rows = rw (l.are, d) (list-are H.Record x (after ++ drop tail img) fits);
+        spans = rw y here;
+        rest = rw y (span-back (records.write x) after b);
       }
 
   pub opening-more : Opening img n batches first to at base (set runs i run) (i + 1)
-  opening-more = record { low = omega arith; wide = length-set runs i run ∙ g.wide; opened = layer-opened }
+  opening-more =
+      let wide = g.wide in
+      record {
+        low = omega arith;
+        wide = length-set runs i run ∙ wide;
+        sound = rw (take_more_set runs i run (omega arith)) (All-push (Sound img H.Record) (take i runs) run g.sound l.sound);
+        are = λ s tail v.
+            let many = v.many in
+            let lent : take (i + 1) (layers s) ≡ take i (layers s) ++ (layer_at s i ∷ []) = take_more (layers s) i (empty by_number) (omega arith) in
+            rw (over-set img runs i run (run_rows img H.Node base ∷ []) (omega arith), (layered s tail v).rows, g.are s tail v, lent, layers-snoc);
+        at = λ s tail v.
+            let x = layered s tail v in
+            record { top = λ j. let q : i + 1 - 1 ≡ i = omega arith in rw q x.spans; rest = rw add-one x.rest };
+      }
 
 pub layers-start : (bs : List Batch) (live : Layer) → layer_bytes bs live 0 ≡ queue_bytes bs ++ records.write live
 unfolding layer_bytes queue_bytes
 layers-start [] live = refl
 layers-start (b ∷ bs) live = refl
 
-module _ {img : List ℕ} {n : ℕ} {p : Sections} {o : Result (ℕ × ℕ) Fault} (a : Reads img (number_read 16) p.batches o) {x : ℕ × ℕ} (z : x ≡ result_unwrap_or o (0, 0)) where
-  given : {s : Store} → Stands img p s → n ≤ length (layers s) → Given img s x.0 x.1 n p.tail
+module _ {img : List ℕ} {n : ℕ} {p : Sections} {rows : Rows} (a : RowsAt img 16 p.batches rows) where
+  given : {s : Store} → Stands img p s → n ≤ length (layers s) → Given img s rows.count rows.first n p.tail
   unfolding node
   given {s} w m =
-      let d = value-ok (0, 0) (stands-counted w a) z in
+      let r = rows-read a in
+      let d = value-ok (0, 0) (stands-counted w r.1) r.2 in
       record {
         fits = stands-fits w;
         nodes = ap (list_rows H.Node) w.base.is ∙ list-are H.Node s.base (drop p.batches img) (stands-fits w).base;
-        count = stands-count w a d;
-        stands = rw (layers-start) (span-both (stands-queue w a d) w.live);
+        count = stands-count w r.1 d;
+        stands = rw (layers-start) (span-both (stands-queue w r.1 d) w.live);
         many = m;
       }
 
-  pub opening-all : {end top : ℕ} {base : Run} {runs : List Run} {i : ℕ} → Opening img n x.0 x.1 end top base runs i → n ≤ i
-      → OpensLayers img p n (record { walk = record { base = base; layers = runs; count = n }; top = top; end = end })
-  opening-all {i = i} g h =
-      let low = g.low in
-      let y : i ≡ n = omega arith in
-      record { opens = λ s w m. rw y at (g.opened s p.tail (given w m)) }
+  module _ {end top : ℕ} {base : Option Run} {runs : List (Option Run)} {i : ℕ} (g : Opening img n rows.count rows.first end top base runs i) (h : n ≤ i)
+      (all : List (Option Run)) where
+    sources-are : (s : Store) → Stands img p s → n ≤ length (layers s)
+        → sources_in img (record { base = base; layers = runs ++ drop n all; count = n }) ≡ layers_on (take n (layers s)) (node_rows s.base ∷ [])
+    sources-are s w m =
+        let low = g.low in
+        let wide = g.wide in
+        let y : i ≡ n = omega arith in
+        let whole : take n runs ≡ runs = take_all n runs (omega arith) in
+        rw (take_at runs (drop n all) n wide) (rw (y, whole) at (g.are s p.tail (given w m)))
 
--- ---- where the records of a layer start
+    opening-ready : ListOf img H.Node 0 base → length all ≡ 17 → (s : Store) → Stands img p s → n ≤ length (layers s)
+        → Ready img (record { base = base; layers = runs ++ drop n all; count = n })
+    opening-ready o l s w m =
+        let are = sources-are s w m in
+        let low = g.low in
+        let wide = g.wide in
+        let few = few-layers s (stands-fits w) in
+        let y : i ≡ n = omega arith in
+        let whole : take n runs ≡ runs = take_all n runs (omega arith) in
+        record {
+          whole = record {
+            few = record { few = omega (arith, m, few); wide = rw (length-append, length-drop, wide, l) (omega (arith, m, few)) };
+            base = o.sound;
+            layers = rw (take_at runs (drop n all) n wide) (rw (y, whole) at g.sound);
+          };
+          ascend = rw are (over-ascend s.base (take n (layers s)));
+        }
 
-module _ {img : List ℕ} {here : ℕ} {batch : Bool} where
-  pub starts-head : batch ≡ true → {o : Result (BatchHead × ℕ) Fault} {h : BatchHead} {q : ℕ} → Reads img batch_head.read here (meant head_meant o) → o ≡ Ok (h, q)
-      → Starts img here batch (Ok q)
-  starts-head b d e =
-      let g = rw e at d in
-      record { headed = λ z. record { same = rw (g.same); within = g.within }; plain = λ z. absurd (let y : ◌≡◌ {A = ℕ} 0 1 = cc in omega arith) }
+    opening-few : (s : Store) → Stands img p s → n ≤ length (layers s)
+        → length (stacks_of (sources_in img (record { base = base; layers = runs ++ drop n all; count = n }))) ≤ edge
+    opening-few s w m =
+        let ss = layers_on (take n (layers s)) (node_rows s.base ∷ []) in
+        let few = rows-few s n (stands-fits w) in
+        rw (sources-are s w m) (omega (arith, few, pile-few by_number laying ss))
 
-  pub starts-stop : batch ≡ true → {o : Result (BatchHead × ℕ) Fault} {f : Fault} {r : Result ℕ Fault} → Reads img batch_head.read here (meant head_meant o) → o ≡ Err f → r ≡ Err f
-      → Starts img here batch r
-  starts-stop b d e c =
-      let g = rw e at d in
-      rw c (record { headed = λ z. record { same = rw (g.same); within = tt }; plain = λ z. absurd (let y : ◌≡◌ {A = ℕ} 0 1 = cc in omega arith) })
+    pub opening-all : ListOf img H.Node 0 base → length all ≡ 17
+        → OpensLayers img p n (record { runs = record { base = base; layers = runs ++ drop n all; count = n }; top = top; end = end })
+    opening-all o l =
+        let low = g.low in
+        let y : i ≡ n = omega arith in
+        record {
+          opens = λ s k m. record { ready = opening-ready o l s k m; are = sources-are s k m; few = opening-few s k m; at = rw y at (g.at s p.tail (given k m)) };
+        }
 
-  pub starts-plain : batch ≡ false → Starts img here batch (Ok here)
-  starts-plain b = record { headed = λ z. absurd (let y : ◌≡◌ {A = ℕ} 0 1 = cc in omega arith); plain = λ z. refl }
+-- ---- where the records of a batch start
 
-pub ruleset starts = (starts-head, starts-stop, starts-plain, handed)
+module _ {img : List ℕ} {at : ℕ} {o : Result (BatchHead × ℕ) Fault} (h : Reads img batch_head.read at (meant head_meant o)) where
+  pub head-ends : {x : BatchHead} {q : ℕ} → o ≡ Ok (x, q) → Ends img batch_head.read at (Ok q)
+  head-ends e = let g = rw e at h in record { same = rw (g.same); within = g.within }
+
+  pub head-stops : {f : Fault} {r : Result ℕ Fault} → o ≡ Err f → r ≡ Err f → Ends img batch_head.read at r
+  head-stops e c = let g = rw e at h in rw c (record { same = rw (g.same); within = tt })
+
+pub ruleset heads = (head-ends, head-stops, handed)
 
 -- where a list of records ends
 module _ {img : List ℕ} {at : ℕ} {o : Result (Option ℕ × ℕ) Fault} (f : Finds img H.Record 0 at o) where

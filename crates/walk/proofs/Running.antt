@@ -1,15 +1,17 @@
 -- How a run is read in the image, row by row, and moved past an inode.
 -- Assumes nothing.
 use Rattle.std.specs.Prelude.{None, Option, Some, is_some, Result, Ok, Err}
+use Rattle.std.specs.Result.{result_ok}
 use mathlib.Core.Path.{◌≡◌, refl, sym, ◌∙◌}
 use mathlib.Core.List.{List, ◌∷◌}
-use Prim.Native.Nat.{ℕ, zero, suc, ◌-◌}
+use Prim.Native.Nat.{ℕ, suc, ◌+◌, ◌-◌, ◌≤◌}
 use native.Mathlib.Omega.{arith}
+use native.Mathlib.Numerals.{add-one}
 use lib.ListN.{drop}
 use Rattle.wire.specs.declared.fault.Fault.{Fault}
 use Rattle.std.specs.declared.cmp.Ordering.{Ordering}
 use Rattle.std.specs.declared.cmp.Ordering.TheVariants.{Less, Equal, Greater}
-use Rattle.wire.specs.Parse.{got}
+use Rattle.wire.specs.Parse.{Parsed, fault, got}
 use Rattle.wire.specs.Combinators.{◌then◌}
 use Rattle.wire.specs.Number.{edge, number_read}
 use Rattle.wire.specs.Orders.{by_number, cmp_n, same-N}
@@ -17,99 +19,102 @@ use Rattle.wire.specs.Rows.{choose}
 use Rattle.wire.specs.Lists.{last_count}
 use Rattle.wire.specs.Reading.{Reads}
 use Rattle.image.specs.FieldLayout.{inode}
-use Rattle.passes.specs.Held.{HeldUnder, held}
+use Rattle.passes.specs.Held.{held}
 use Rattle.image.specs.Places.{Ends}
+use Rattle.image.specs.Rows.{RowsAt}
+use Rattle.image.specs.declared.rows.Rows.{Rows}
 use Rattle.passes.specs.declared.inode.Held.{Held}
 use Rattle.image.proofs.Passing.{ends-got, ends-fault}
 use Rattle.merge.specs.Pile.{head_if, pass}
-use Rattle.walk.specs.Runs.{Piece, piece, Row, rows_if, rows_read, rows_left, run_rows, Ended, Sound, RowsOf, ListOf, piece_at, EndsAt, Moved}
+use Rattle.walk.specs.Runs.{Piece, piece, Row, rows_if, rows_read, run_rows, Leaves, Sound, RowsOf, ListOf, piece_at, EndsAt, next_of, Moved}
 use Rattle.rules.specs.Reads.{is_there}
 use Rattle.walk.specs.declared.run.Run.{Run}
 
--- ---- runs
-
-pub ended-sound : {img : List ℕ} {h : Held} {r : Run} → Ended r → Sound img h r
-ended-sound e = record { reads = λ n. absurd (n e.none_left) }
-
--- the first of some rows
-rows-first : (h : Held) (n : ℕ) (s : List ℕ) → (n ≡ 0 → ⊥)
-    → rows_read h n s ≡ rows_if ((inode then held h).read s) (λ e r. (e.0, piece h e.1) ∷ rows_read h (n - 1) r)
-unfolding rows_read
-rows-first h zero s n = absurd (n refl)
-rows-first h (suc n) s k = let z : suc n - 1 ≡ n = omega arith in rw z
-
-pub run-first : (img : List ℕ) (h : Held) (r : Run) {a : HeldUnder h} {t : List ℕ} → (r.left ≡ 0 → ⊥) → (held h).read (drop r.place img) ≡ got a t
-    → run_rows img h r ≡ (r.inode, piece h a) ∷ rows_read h (r.left - 1) (drop r.next img)
-run-first img h r {a} n e = go r.left n
-  where
-    go : (m : ℕ) → (m ≡ 0 → ⊥) → rows_left img h r m ≡ (r.inode, piece h a) ∷ rows_read h (m - 1) (drop r.next img)
-    go zero n = absurd (n refl)
-    go (suc m) n = let z : suc m - 1 ≡ m = omega arith in rw (e, z)
-
 -- ---- a row read
 
-module _ {img : List ℕ} {h : Held} {n p : ℕ} {r : Run} where
-  pub from-none : n ≡ 0 → Ended r → RowsOf img h n p r
+-- the first of some rows
+rows-first : (h : Held) {n m : ℕ} (s : List ℕ) → n ≡ suc m
+    → rows_read h n s ≡ rows_if ((inode then held h).read s) (λ e r. (e.0, piece h e.1) ∷ rows_read h m r)
+unfolding rows_read
+rows-first h s e = rw e
+
+-- what was read, if it is told as an option
+ok-some : {X : Type 0} (o : Result X Fault) {x : X} → result_ok o ≡ Some x → o ≡ Ok x
+ok-some (Ok y) e = cc
+ok-some (Err f) e = cc
+
+ok-none : {X : Type 0} (o : Result X Fault) → result_ok o ≡ None → (f : Fault) × (o ≡ Err f)
+ok-none (Ok y) e = cc
+ok-none (Err f) e = (f, refl)
+
+module _ {img : List ℕ} (h : Held) {n p : ℕ} where
+  pub from-none : (1 ≤ n → ⊥) → {r : Option Run} → r ≡ None → RowsOf img h n p r
   unfolding rows_read
-  from-none e d = record { are = rw (e, d.none_left); sound = ended-sound d }
+  from-none k d = let z : n ≡ 0 = omega arith in rw (d, z) (record { are = refl; sound = tt })
 
-row-at : {img : List ℕ} {h : Held} {n p i m q : ℕ} {a : HeldUnder h} → (n ≡ 0 → ⊥) → Reads img (number_read edge) p (Ok (i, m)) → (held h).read (drop m img) ≡ got a (drop q img)
-    → RowsOf img h n p (record { inode = i; place = m; next = q; left = n })
-row-at {img} {h} {n} {p} {i} {m} {q} {a} k g e = record {
-  are = run-first img h (record { inode = i; place = m; next = q; left = n }) k e ∙ rw (rows-first h n (drop p img) k, g.same, e);
-  sound = record { reads = λ l. (a, e) };
-}
+  module _ (m : ℕ) (k : (1 ≤ n) × (m ≡ n - 1)) {o : Result (ℕ × ℕ) Fault} (a : Reads img (number_read edge) p o) where
+    first : rows_read h n (drop p img) ≡ rows_if ((inode then held h).read (drop p img)) (λ e r. (e.0, piece h e.1) ∷ rows_read h m r)
+    first = rows-first h (drop p img) (let z : n ≡ m + 1 = omega (arith, k.0, k.1) in z ∙ add-one m)
 
-module _ {img : List ℕ} {h : Held} {n p : ℕ} (k : n ≡ 0 → ⊥) {o : Result (ℕ × ℕ) Fault} (a : Reads img (number_read edge) p o) where
-  pub from-unread : {f : Fault} {r : Run} → o ≡ Err f → Ended r → RowsOf img h n p r
-  from-unread d e = let g = rw d at a in record { are = rw (e.none_left, rows-first h n (drop p img) k, g.same); sound = ended-sound e }
+    pub from-unread : result_ok o ≡ None → {r : Option Run} → r ≡ None → RowsOf img h n p r
+    from-unread d e = let g = rw (ok-none o d).1 at a in rw e (record { are = rw (first, g.same); sound = tt })
 
-  module _ {i m : ℕ} (d : o ≡ Ok (i, m)) {u : Result ℕ Fault} (v : Ends img (held h).read m u) where
-    pub from-stop : {f : Fault} {r : Run} → u ≡ Err f → Ended r → RowsOf img h n p r
-    from-stop c e =
-        let g = rw d at a in
-        record { are = rw (e.none_left, rows-first h n (drop p img) k, g.same, ends-fault (rw c at v)); sound = ended-sound e }
+    module _ {i q : ℕ} (d : result_ok o ≡ Some (i, q)) {u : Result ℕ Fault} (v : Ends img (held h).read q u) where
+      pub from-stop : result_ok u ≡ None → {r : Option Run} → r ≡ None → RowsOf img h n p r
+      from-stop c e =
+          let g = rw (ok-some o d) at a in
+          rw e (record { are = rw (first, g.same, ends-fault (rw (ok-none u c).1 at v)); sound = tt })
 
-    pub from_row : {q : ℕ} → u ≡ Ok q → RowsOf img h n p (record { inode = i; place = m; next = q; left = n })
-    from_row c = row-at k (rw d at a) (ends-got (rw c at v)).1
+      pub from_row : {z : ℕ} → result_ok u ≡ Some z → RowsOf img h n p (Some (record { inode = i; place = q; next = z; left = m }))
+      from_row c =
+          let g = rw (ok-some o d) at a in
+          let x = ends-got (rw (ok-some u c) at v) in
+          record { are = rw (first, g.same, x.1); sound = rw x.1 refl }
 
 -- ---- a list, its count first
 
-module _ {img : List ℕ} {h : Held} {p : ℕ} {o : Result (ℕ × ℕ) Fault} {r : Run} (a : Reads img (number_read last_count) p o) where
-  pub list-stop : {f : Fault} → o ≡ Err f → Ended r → ListOf img h p r
-  list-stop d e = let g = rw d at a in record { are = rw (g.same, e.none_left); sound = ended-sound e }
+pub list-rows : {img : List ℕ} {h : Held} {p : ℕ} {rows : Rows} {r : Option Run} → RowsAt img last_count p rows → RowsOf img h rows.count rows.first r
+    → ListOf img h p r
+unfolding rows_read
+list-rows {img} {h} {p} {rows} {r} a e = go (number_read last_count (drop p img)) refl
+  where
+    go : (o : Parsed ℕ) → number_read last_count (drop p img) ≡ o → ListOf img h p r
+    go (got n s) d = let z = a.counted n s d in record { are = e.are ∙ rw (d, z.0, z.1); sound = e.sound }
+    go (fault f) d = let z = a.uncounted f d in record { are = e.are ∙ rw (d, z.0); sound = e.sound }
 
-  pub list-rows : {n q : ℕ} → o ≡ Ok (n, q) → RowsOf img h n q r → ListOf img h p r
-  list-rows d e = let g = rw d at a in record { are = e.are ∙ rw (g.same); sound = e.sound }
-
-pub ruleset runs = (from-none, from-unread, from-stop, from_row, list-stop, list-rows)
+pub ruleset runs = (list-rows)
 
 -- ---- past an inode
 
-module _ {img : List ℕ} {h : Held} {r : Run} {k : ℕ} (s : Sound img h r) where
-  pub moved_none : r.left ≡ 0 → Moved img h r k None r
-  unfolding pass
-  moved_none e = record { rows = rw e; sound = s; head = rw e; ends = tt }
+-- what is left is left by what is read
+pub left-as : {A : Type 0} (o : Parsed A) {s : List ℕ} → Leaves o s → (a : A) × (o ≡ got a s)
+left-as (fault f) h = absurd h
+left-as (got a r) h = (a, rw h refl)
 
-  module _ (n : r.left ≡ 0 → ⊥) where
-    pub moved_here : r.inode ≡ k → {next : Run} → RowsOf img h (r.left - 1) r.next next → Moved img h r k (Some r.place) next
+module _ {img : List ℕ} {h : Held} {old : Option Run} {k : ℕ} (s : Sound img h old) where
+  pub moved_none : old ≡ None → Moved img h old k None old
+  unfolding pass
+  moved_none e = rw e (record { rows = refl; sound = tt; head = refl; ends = tt })
+
+  module _ {r : Run} (e : old ≡ Some r) where
+    pub moved_here : r.inode ≡ k → {next : Option Run} → RowsOf img h r.left r.next next → Moved img h old k (Some r.place) next
     unfolding pass
-    moved_here e {next} d =
-        let a = s.reads n in
-        record {
-          rows = d.are ∙ rw (run-first img h r n a.1, e, by_number.self k);
+    moved_here i d =
+        let a = left-as _ (rw e at s) in
+        rw e (record {
+          rows = d.are ∙ rw (a.1, i, by_number.self k);
           sound = d.sound;
-          head = rw (run-first img h r n a.1, e, by_number.self k, a.1);
+          head = rw (a.1, i, by_number.self k);
           ends = a;
-        }
+        })
 
     -- a run that is not at k has other rows
-    pub moved_other : (r.inode ≡ k → ⊥) → Moved img h r k None r
+    pub moved_other : (r.inode ≡ k → ⊥) → Moved img h old k None old
     unfolding pass
-    moved_other e =
-        let a = s.reads n in
-        let d = go (cmp_n k r.inode) (λ q. e (sym (same-N k r.inode q))) in
-        record { rows = rw (run-first img h r n a.1) d.1; sound = s; head = rw (run-first img h r n a.1) d.0; ends = tt }
+    moved_other n =
+        let a = left-as _ (rw e at s) in
+        let d = go (cmp_n k r.inode) (λ q. n (sym (same-N k r.inode q))) in
+        rw e (record { rows = rw a.1 d.1; sound = rw e at s; head = rw a.1 d.0; ends = tt })
       where
         go : {x : Row} {t : List Row} (o : Ordering) → (o ≡ Equal → ⊥) → (choose o (Some x.1) None ≡ None) × (x ∷ t ≡ choose o t (x ∷ t))
         go Less n = (refl, refl)
@@ -119,10 +124,10 @@ module _ {img : List ℕ} {h : Held} {r : Run} {k : ℕ} (s : Sound img h r) whe
 pub ruleset moves = (moved_none, moved_here, moved_other)
 
 -- the place says whether the first row is of the inode
-pub has-head : {img : List ℕ} {h : Held} {old new : Run} {k : ℕ} {place : Option ℕ} → Moved img h old k place new
+pub has-head : {img : List ℕ} {h : Held} {old new : Option Run} {k : ℕ} {place : Option ℕ} → Moved img h old k place new
     → is_some place ≡ is_there (head_if by_number k (run_rows img h old))
 has-head {img} {h} {old} {place = place} m = go place m.head m.ends
   where
-    go : (o : Option ℕ) → {x : Option Piece} → x ≡ piece_at img h o → EndsAt img h o old.next → is_some o ≡ is_there x
+    go : (o : Option ℕ) → {x : Option Piece} → x ≡ piece_at img h o → EndsAt img h o (next_of old) → is_some o ≡ is_there x
     go None e z = rw e
     go (Some p) e z = rw (e, z.1)

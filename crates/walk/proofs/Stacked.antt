@@ -36,7 +36,8 @@ rows_on (l ∷ ls) cs = rows_on ls (map_values by_number of_record l ∷ cs)
 abbrev under : ℕ → List (Map by_number Piece) → Pieces
 under i cs = or_nothing (get by_number i (merged by_number laying cs))
 
-laid_on : (i : ℕ) (ls : List Layer) (cs : List (Map by_number Piece)) (rs : List Record) (n : Option Node) → under i cs ≡ (rs, n) → under i (maps_on ls cs) ≡ (stack_on i ls rs, n)
+laid_on : (i : ℕ) (ls : List Layer) (cs : List (Map by_number Piece)) (rs : List Record) (n : Option Node) → under i cs ≡ (rs, n)
+    → under i (maps_on ls cs) ≡ (stack_on i ls rs, n)
 unfolding maps_on merged stack_on
 laid_on i [] cs rs n e = e
 laid_on i (l ∷ ls) cs rs n e =
@@ -61,7 +62,8 @@ module _ (b : Base) (ls : List Layer) where
       rw (rows_on ls (map_values by_number of_node b ∷ []), pile-merged by_number laying (maps_on ls (map_values by_number of_node b ∷ []))) (stack-under i)
 
 -- each row is what a lookup of its key gives
-pub every-found : {K A : Type 0} (O : Order K) (P : K × A → Type 0) (l : List (K × A)) → Rising O l → ((k : K) (a : A) → lookup O k l ≡ Some a → P (k, a)) → Every P l
+pub every-found : {K A : Type 0} (O : Order K) (P : K × A → Type 0) (l : List (K × A)) → Rising O l → ((k : K) (a : A) → lookup O k l ≡ Some a → P (k, a))
+    → Every P l
 unfolding lookup
 every-found O P [] r f = tt
 every-found {K} {A} O P (e ∷ l) r f = (f e.0 e.1 (rw (O.self e.0)), every-found O P l r.1 (λ k a h. f k a (go k a h (O.cmp k e.0) refl)))
@@ -77,12 +79,12 @@ every-found {K} {A} O P (e ∷ l) r f = (f e.0 e.1 (rw (O.self e.0)), every-foun
 pub record Is (b : Base) (ls : List Layer) (e : ℕ × Pieces) : Type 0 where
   pub pieces : e.1 ≡ (stack e.0 ls, get by_number e.0 b)
 
-module _ {img : List ℕ} {b : Base} {ls : List Layer} {w : Walk} (o : Over img b ls w) where
-  pub over-stacks : (i : ℕ) → or_nothing (lookup by_number i (stacks_left img w)) ≡ (stack i ls, get by_number i b)
+module _ {b : Base} {ls : List Layer} {w : Walk} (o : Over b ls w) where
+  pub over-stacks : (i : ℕ) → or_nothing (lookup by_number i (stacks_left w)) ≡ (stack i ls, get by_number i b)
   over-stacks i = rw o.are (stacks-are b ls i)
 
-  pub over-rising : Rising by_number (stacks_left img w)
-  over-rising = rising-pile by_number laying (sources_of img w)
+  pub over-rising : Rising by_number (stacks_left w)
+  over-rising = rising-pile by_number laying (sources_of w)
 
-  pub over-each : Every (Is b ls) (stacks_left img w)
-  over-each = every-found by_number (Is b ls) (stacks_left img w) over-rising (λ i x h. record { pieces = rw h at (over-stacks i) })
+  pub over-each : Every (Is b ls) (stacks_left w)
+  over-each = every-found by_number (Is b ls) (stacks_left w) over-rising (λ i x h. record { pieces = rw h at (over-stacks i) })

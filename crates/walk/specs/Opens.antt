@@ -1,19 +1,19 @@
 -- A walk over the base and the first layers of an image that may be used.
-use Rattle.std.specs.Prelude.{◌≡◌, Bool, true, false, List, [], ◌∷◌, ◌++◌, map, ℕ, zero, suc, ◌-◌, ◌≤◌, ◌<◌, length, take, get_or, Result, Ok}
-use Rattle.wire.specs.declared.fault.Fault.{Fault}
+use Rattle.std.specs.Prelude.{◌≡◌, List, [], ◌∷◌, ◌++◌, map, ℕ, zero, suc, ◌-◌, ◌≤◌, ◌<◌, length, take, get_or}
+use Rattle.wire.specs.Number.{edge}
 use Rattle.wire.specs.Orders.{by_number}
 use Rattle.wire.specs.Maps.{empty}
 use Rattle.image.specs.Meaning.{Base, Layer, Batch, Store}
 use Rattle.image.specs.RecordLayout.{records}
 use Rattle.survey.specs.Gathering.{batch_head}
-use Rattle.image.specs.Places.{Ends}
 use Rattle.rules.specs.Stacks.{layers}
 use Rattle.rules.proofs.MapValues.{map_row}
 use Rattle.change.specs.Sections.{Spans, Stands}
 use Rattle.change.specs.declared.section.Sections.{Sections}
 use Rattle.change.proofs.Batches.{head_of, queue_bytes}
 use Rattle.walk.specs.Runs.{of_node, of_record, Row}
-use Rattle.walk.specs.Walks.{sources_of, Ready}
+use Rattle.walk.specs.Ready.{sources_in, Ready}
+use Rattle.walk.specs.Walks.{sources_of, stacks_of}
 use Rattle.walk.specs.declared.walk.Walk.{Walk}
 use Rattle.walk.specs.declared.open.Layers.{Layers}
 
@@ -31,9 +31,8 @@ layers_on [] ss = ss
 layers_on (l ∷ ls) ss = layers_on ls (record_rows l ∷ ss)
 
 -- the walk is over this base and these layers
-pub record Over (img : List ℕ) (b : Base) (ls : List Layer) (w : Walk) : Type 0 where
-  pub ready : Ready img w
-  pub are : sources_of img w ≡ layers_on ls (node_rows b ∷ [])
+pub record Over (b : Base) (ls : List Layer) (w : Walk) : Type 0 where
+  pub are : sources_of w ≡ layers_on ls (node_rows b ∷ [])
 
 -- ---- where layers stand
 
@@ -55,15 +54,17 @@ layer_at s i = get_or (layers s) i (empty by_number)
 
 -- ---- what is promised
 
-pub record Starts (img : List ℕ) (here : ℕ) (batch : Bool) (r : Result ℕ Fault) : Type 0 where
-  pub headed : batch ≡ true → Ends img batch_head.read here r
-  pub plain : batch ≡ false → r ≡ Ok here
-
--- over the first n layers of a store: the topmost is from `top` to `end`, and the others follow
-pub record LayersOf (img : List ℕ) (s : Store) (tail n : ℕ) (w : Walk) (from to : ℕ) : Type 0 where
-  pub over : Over img s.base (take n (layers s)) w
+-- the records of the topmost of the first n layers of a store are from one place to another, and the other layers follow
+pub record TopAt (img : List ℕ) (s : Store) (tail n from to : ℕ) : Type 0 where
   pub top : 0 < n → Spans img from (records.write (layer_at s (n - 1))) to
   pub rest : Spans img to (layer_bytes s.batches s.live n) tail
 
+-- over the first n layers of a store, which have no more inodes than a number can say: the topmost is from `top` to `end`, and the others follow
+pub record LayersOf (img : List ℕ) (s : Store) (tail n : ℕ) (r : Layers) : Type 0 where
+  pub ready : Ready img r.runs
+  pub are : sources_in img r.runs ≡ layers_on (take n (layers s)) (node_rows s.base ∷ [])
+  pub few : length (stacks_of (sources_in img r.runs)) ≤ edge
+  pub at : TopAt img s tail n r.top r.end
+
 pub record OpensLayers (img : List ℕ) (p : Sections) (n : ℕ) (r : Layers) : Type 0 where
-  pub opens : (s : Store) → Stands img p s → n ≤ length (layers s) → LayersOf img s p.tail n r.walk r.top r.end
+  pub opens : (s : Store) → Stands img p s → n ≤ length (layers s) → LayersOf img s p.tail n r

@@ -1,5 +1,6 @@
 -- Lists by inode as rows. Document 01: "Base: by rising inode", "Records by rising inode".
 use Rattle.std.specs.Prelude.{◌≡◌, List, [], ◌∷◌, ℕ, zero, suc, drop, None, Option, Some}
+use Rattle.std.proofs.Props.{props}
 use Rattle.wire.specs.Parse.{Parsed, fault, got}
 use Rattle.wire.specs.Combinators.{◌then◌}
 use Rattle.wire.specs.Number.{number_read}
@@ -41,28 +42,37 @@ rows_read h (suc n) s = rows_if ((inode then held h).read s) (λ e r. (e.0, piec
 abbrev pub list_rows : Held → List ℕ → List Row
 list_rows h s = rows_if (number_read last_count s) (λ n r. rows_read h n r)
 
--- the rows of a run: the one that it is at, and those that follow
-abbrev pub rows_left : List ℕ → Held → Run → ℕ → List Row
-rows_left img h r zero = []
-rows_left img h r (suc n) = rows_if ((held h).read (drop r.place img)) (λ a s. (r.inode, piece h a) ∷ rows_read h n (drop r.next img))
-
-abbrev pub run_rows : List ℕ → Held → Run → List Row
-run_rows img h r = rows_left img h r r.left
+-- the rows of a run: the one that it is at, and those that follow; there is none in none
+abbrev pub run_rows : List ℕ → Held → Option Run → List Row
+run_rows img h None = []
+run_rows img h (Some r) = rows_if ((held h).read (drop r.place img)) (λ a s. (r.inode, piece h a) ∷ rows_read h r.left (drop r.next img))
 
 -- ---- what the functions over a run promise
 
-pub record Ended (r : Run) : Type 0 where
-  pub none_left : r.left ≡ 0
+-- something is read, and this is left
+abbrev pub Leaves : {A : Type 0} → Parsed A → List ℕ → Type 0
+Leaves (fault f) s = ⊥
+Leaves (got a r) s = r ≡ s
 
--- what stands under the inode is read at its place
-pub record Sound (img : List ℕ) (h : Held) (r : Run) : Type 0 where
-  pub reads : (r.left ≡ 0 → ⊥) → (a : HeldUnder h) × ((held h).read (drop r.place img) ≡ got a (drop r.next img))
+-- what stands under the inode is read at its place, and ends at the next
+abbrev pub Sound : List ℕ → Held → Option Run → Type 0
+Sound img h None = Unit {0}
+Sound img h (Some r) = Leaves ((held h).read (drop r.place img)) (drop r.next img)
 
-pub record RowsOf (img : List ℕ) (h : Held) (n p : ℕ) (r : Run) : Type 0 where
+-- which can be said in one way alone
+leaves-prop : {A : Type 0} (o : Parsed A) (s : List ℕ) → IsProp (Leaves o s)
+leaves-prop (fault f) s = hlevel
+leaves-prop (got a r) s = hlevel props
+
+pub Sound-prop : (img : List ℕ) (h : Held) (o : Option Run) → IsProp (Sound img h o)
+Sound-prop img h None = hlevel
+Sound-prop img h (Some r) = leaves-prop ((held h).read (drop r.place img)) (drop r.next img)
+
+pub record RowsOf (img : List ℕ) (h : Held) (n p : ℕ) (r : Option Run) : Type 0 where
   pub are : run_rows img h r ≡ rows_read h n (drop p img)
   pub sound : Sound img h r
 
-pub record ListOf (img : List ℕ) (h : Held) (p : ℕ) (r : Run) : Type 0 where
+pub record ListOf (img : List ℕ) (h : Held) (p : ℕ) (r : Option Run) : Type 0 where
   pub are : run_rows img h r ≡ list_rows h (drop p img)
   pub sound : Sound img h r
 
@@ -76,9 +86,14 @@ abbrev pub EndsAt : List ℕ → Held → Option ℕ → ℕ → Type 0
 EndsAt img h None e = Unit {0}
 EndsAt img h (Some p) e = (a : HeldUnder h) × ((held h).read (drop p img) ≡ got a (drop e img))
 
+-- where what stands under the inode ends
+abbrev pub next_of : Option Run → ℕ
+next_of None = 0
+next_of (Some r) = r.next
+
 -- the run past the inode k, and the place of what stood under k in it
-pub record Moved (img : List ℕ) (h : Held) (old : Run) (k : ℕ) (place : Option ℕ) (new : Run) : Type 0 where
+pub record Moved (img : List ℕ) (h : Held) (old : Option Run) (k : ℕ) (place : Option ℕ) (new : Option Run) : Type 0 where
   pub rows : run_rows img h new ≡ pass by_number k (run_rows img h old)
   pub sound : Sound img h new
   pub head : head_if by_number k (run_rows img h old) ≡ piece_at img h place
-  pub ends : EndsAt img h place old.next
+  pub ends : EndsAt img h place (next_of old)

@@ -1,7 +1,6 @@
 -- What a walk over the base and layers promises. Document 01: "An inode's stack is its base node, its record in each batch (front first),
 -- its live record; any may be absent."
-use Rattle.std.specs.Prelude.{◌≡◌, List, [], ◌∷◌, ℕ, zero, suc, ◌≤◌, length, take, None, Option, Some, IfSome}
-use Rattle.std.specs.List.{All}
+use Rattle.std.specs.Prelude.{◌≡◌, List, [], ◌∷◌, ℕ, None, Option, Some, IfSome}
 use Rattle.wire.specs.Orders.{by_number}
 use Rattle.image.specs.Meaning.{Node, Record}
 use Rattle.passes.specs.declared.inode.Held.TheVariants as H
@@ -9,10 +8,12 @@ use Rattle.survey.specs.declared.batch.InodeLayerStack.{InodeLayerStack}
 use Rattle.rules.specs.Reads.{is_there}
 use Rattle.rules.specs.PlacedStacks.{unplaced, unplaced_node}
 use Rattle.stack.specs.Stacks.{records_in, node_in}
-use Rattle.merge.specs.Pile.{lower, least_key, head_if, pass_all, Ascend, pile, answer}
-use Rattle.walk.specs.Runs.{Piece, of_node, of_record, Row, run_rows, Sound, EndsAt}
+use Rattle.merge.specs.Pile.{lower, least_key, head_if, pass_all, pile, answer}
+use Rattle.walk.specs.Runs.{Piece, of_node, of_record, Row, EndsAt}
+use Rattle.walk.specs.Ready.{sources_in, Whole}
 use Rattle.stack.specs.declared.stack.Stack.{Stack}
 use Rattle.walk.specs.declared.run.Run.{Run}
+use Rattle.walk.specs.declared.run.Runs.{Runs}
 use Rattle.walk.specs.declared.walk.Walk.{Walk}
 use Rattle.walk.specs.declared.walk.Step.{Step}
 
@@ -44,18 +45,13 @@ top_of (s ∷ ss) = s
 
 -- ---- walks
 
--- layers, the lowest first, over what is beneath them
-unfoldable pub layers_over : List ℕ → List Run → List (List Row) → List (List Row)
-layers_over img [] ss = ss
-layers_over img (r ∷ rs) ss = layers_over img rs (run_rows img H.Record r ∷ ss)
-
--- the rows of the base and of the layers over it, the topmost first
-abbrev pub sources_of : List ℕ → Walk → List (List Row)
-sources_of img w = layers_over img (take w.count w.layers) (run_rows img H.Node w.base ∷ [])
+-- the rows that a walk has left of the base and of the layers over it, the topmost first
+abbrev pub sources_of : Walk → List (List Row)
+sources_of w = sources_in w.img.now w.runs
 
 -- the stacks that a walk has left
-abbrev pub stacks_left : List ℕ → Walk → List (ℕ × Pieces)
-stacks_left img w = stacks_of (sources_of img w)
+abbrev pub stacks_left : Walk → List (ℕ × Pieces)
+stacks_left w = stacks_of (sources_of w)
 
 -- the records and the node at the places of a stack
 abbrev pub pieces_at : List ℕ → InodeLayerStack → Pieces
@@ -64,53 +60,48 @@ pieces_at img s = (unplaced (records_in img s), unplaced_node (node_in img s))
 abbrev pub pieces_in : Stack → Pieces
 pieces_in s = pieces_at s.img.now s.places
 
-pub record Few (w : Walk) : Type 0 where
-  pub few : w.count ≤ 17
-  pub wide : length w.layers ≡ 17
-
-pub record Whole (img : List ℕ) (w : Walk) : Type 0 where
-  pub few : Few w
-  pub base : Sound img H.Node w.base
-  pub layers : All (Sound img H.Record) (take w.count w.layers)
-
--- each run rises
-pub record Ready (img : List ℕ) (w : Walk) : Type 0 where
-  pub whole : Whole img w
-  pub ascend : Ascend by_number (sources_of img w)
-
 -- ---- a step
 
-abbrev pub key_of : Run → ℕ → Option ℕ
-key_of r zero = None
-key_of r (suc n) = Some r.inode
+abbrev pub key_of : Option Run → Option ℕ
+key_of None = None
+key_of (Some r) = Some r.inode
 
-pub record Lower (best : Option ℕ) (r : Run) (out : Option ℕ) : Type 0 where
-  pub is : out ≡ lower by_number (key_of r r.left) best
+pub record Lower (best : Option ℕ) (r : Option Run) (out : Option ℕ) : Type 0 where
+  pub is : out ≡ lower by_number (key_of r) best
 
 pub record Least (w : Walk) (r : Option ℕ) : Type 0 where
-  pub is : (img : List ℕ) → Whole img w → least_key by_number (sources_of img w) ≡ r
+  pub is : least_key by_number (sources_of w) ≡ r
 
 -- the node at a place ends there; no place, no node
 abbrev pub NodeEnds : List ℕ → Option ℕ → ℕ → Type 0
 NodeEnds img o e = EndsAt img H.Node o e
 
--- the places of what stands under the inode k, and the walk past it
-pub record Taken (img : List ℕ) (w : Walk) (k : ℕ) (r : Step) (out : Walk) : Type 0 where
+-- the stack of the inode k, which no run is past
+pub record StackOf (img : List ℕ) (sources : List (List Row)) (k : ℕ) (r : Step) : Type 0 where
   pub inode : r.inode ≡ k
-  pub rest : sources_of img out ≡ pass_all by_number k (sources_of img w)
-  pub whole : Whole img out
   pub image_is : r.stack.img.now ≡ img
   pub ends : NodeEnds img r.stack.places.base r.end
-  pub pieces : pieces_in r.stack ≡ or_nothing (answer by_number laying k (sources_of img w))
-  pub top : r.top ≡ is_there (head_if by_number k (top_of (sources_of img w)))
+  pub pieces : pieces_in r.stack ≡ or_nothing (answer by_number laying k sources)
+  pub top : r.top ≡ is_there (head_if by_number k (top_of sources))
+
+-- and the runs past it
+pub record Taken (img : List ℕ) (old : Runs) (k : ℕ) (r : Step) (new : Runs) : Type 0 where
+  pub stack : StackOf img (sources_in img old) k r
+  pub rest : sources_in img new ≡ pass_all by_number k (sources_in img old)
+  pub whole : Whole img new
+
+-- a step, and the walk past its inode
+pub record Passes (w : Walk) (r : Step) (after : Walk) : Type 0 where
+  pub stack : StackOf w.img.now (sources_of w) r.inode r
+  pub rest : sources_of after ≡ pass_all by_number r.inode (sources_of w)
 
 abbrev pub stacks_if : Option Step → List (ℕ × Pieces) → List (ℕ × Pieces)
 stacks_if (Some s) l = (s.inode, pieces_in s.stack) ∷ l
 stacks_if None l = []
 
 -- the least inode goes first, with its stack, and then the rest
-pub record Steps (img : List ℕ) (w : Walk) (r : Option Step) (rest : Walk) : Type 0 where
-  pub stacks : stacks_left img w ≡ stacks_if r (stacks_left img rest)
-  pub taken : IfSome r (λ s. Taken img w s.inode s rest)
-  pub ready : Ready img rest
-  pub ended : r ≡ None → least_key by_number (sources_of img w) ≡ None
+pub record Steps (w : Walk) (r : Option Step) (rest : Walk) : Type 0 where
+  pub image_is : rest.img.now ≡ w.img.now
+  pub stacks : stacks_left w ≡ stacks_if r (stacks_left rest)
+  pub taken : IfSome r (λ s. Passes w s rest)
+  pub ended : r ≡ None → least_key by_number (sources_of w) ≡ None

@@ -3,4 +3,5 @@
 
 pub mod open;
 pub mod run;
+pub mod step;
 pub mod walk;

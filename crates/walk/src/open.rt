@@ -1,35 +1,46 @@
-// A walk over the base and the first layers of an image.
-ghost use Rattle.std.specs.Prelude.{◌≤◌};
+// The runs of a walk over the base and the first layers of an image.
+ghost use Rattle.std.specs.Prelude.{◌≤◌, ◌≡◌};
 ghost use Rattle.image.specs.Places.{Ends};
 ghost use Rattle.image.specs.RecordLayout.{records};
-ghost use Rattle.walk.specs.Opens.{Starts, OpensLayers};
+ghost use Rattle.survey.specs.Gathering.{batch_head};
+ghost use Rattle.walk.specs.Opens.{OpensLayers};
+ghost use Rattle.walk.specs.Ready.{Ready};
 
-use crate::run::{no_run, run_at};
+use crate::run::{Runs, run_at};
 use crate::walk::Walk;
 use change::section::Sections;
+use image::rows::rows_at;
 use passes::inode::{Held, find_inode};
 use wire::fault::Fault;
-use wire::number::read_number;
 use writers::batch::read_batch_head;
 
-// A walk, and where the records of its topmost layer start, with their count, and end.
+// The runs of a walk, and where the records of its topmost layer start, with their count, and end. Of an image that may be used they are those
+// of a `Walk`.
 #[derive(Clone, Copy)]
 pub struct Layers {
-    pub walk: Walk,
+    pub runs: Runs,
     pub top: usize,
     pub end: usize,
 }
 
-// Where the records of a layer start: after its head, if it is a batch.
-#[tactic(auto, using(crate::proofs::Opening::starts))]
-fn records_of(img: &[u8], here: usize, batch: bool) -> Result<usize, Fault>
-    ensures { Starts img.now here batch result }
-{
-    if batch {
-        let (_, records) = read_batch_head(img, here)?;
-        return Ok(records);
+impl Layers {
+    // The walk of these runs.
+    pub fn walk<'a>(&self, img: &'a [u8]) -> Walk<'a>
+        requires { Ready img.now self.now.runs }
+        ensures { (result.img.now ≡ img.now) × (result.runs ≡ self.now.runs) }
+    {
+        let runs = self.runs;
+        Walk { img, runs }
     }
-    Ok(here)
+}
+
+// Where the records of the batch at `at` start: after its head.
+#[tactic(auto, using(crate::proofs::Opening::heads))]
+fn batch_records(img: &[u8], at: usize) -> Result<usize, Fault>
+    ensures { Ends img.now batch_head.read at result }
+{
+    let (_, records) = read_batch_head(img, at)?;
+    Ok(records)
 }
 
 // Where the list of records at `at` ends.
@@ -41,25 +52,29 @@ fn records_end(img: &[u8], at: usize) -> Result<usize, Fault>
     Ok(end)
 }
 
-// A walk over the base and the first `n` layers: the batches, front first, and then live.
+// The runs of the base and the first `n` layers: the batches, front first, and then live.
 pub fn open_layers(img: &[u8], sections: Sections, n: u64) -> Layers
     requires { n ≤ 17 }
     ensures { OpensLayers img.now sections n result }
 {
-    let (batches, first) = read_number(img, sections.batches, 16).unwrap_or((0, 0));
+    let batches = rows_at(img, sections.batches, 16);
     let base = run_at(img, 0, Held::Node);
-    let mut layers = [no_run(); 17];
-    let mut end = first;
-    let mut top = end;
-    for i in 0..n {
-        top = records_of(img, end, i < batches).unwrap_or(0);
-        layers[i as usize] = run_at(img, top, Held::Record);
+    let mut layers = [None; 17];
+    let count = n as usize;
+    let mut top = batches.first;
+    let mut end = batches.first;
+    for (i, layer) in layers[..count].iter_mut().enumerate() {
+        top = end;
+        if (i as u64) < batches.count {
+            top = batch_records(img, end).unwrap_or(0);
+        }
+        *layer = run_at(img, top, Held::Record);
         end = records_end(img, top).unwrap_or(0);
     }
-    let walk = Walk {
+    let runs = Runs {
         base,
         layers,
-        count: n as usize,
+        count,
     };
-    Layers { walk, top, end }
+    Layers { runs, top, end }
 }

@@ -50,7 +50,8 @@ module _ {s : List ℕ} {p : List ℕ → Parsed ℕ} {at : ℕ} where
   answer-none : {f : Fault} {r : Result (ℕ × ℕ) Fault} → p (drop at s) ≡ fault f → r ≡ Err f → Reads s p at r
   answer-none e q = rw q (stopped e)
 
-  answer-judged : {r : Result (ℕ × ℕ) Fault} (v most next : ℕ) → p (drop at s) ≡ up_to most (got v (drop next s)) → next ≤ length s → r ≡ judged_number v most next → Reads s p at r
+  answer-judged : {r : Result (ℕ × ℕ) Fault} (v most next : ℕ) → p (drop at s) ≡ up_to most (got v (drop next s)) → next ≤ length s → r ≡ judged_number v most
+      next → Reads s p at r
   answer-judged {r} v most next e h q =
       ⊎_elim
       (λ l. answer-none {f = Malformed} (e ∙ rw (lt-leb v most l)) (q ∙ rw (lt-ltb most v l)))
@@ -81,7 +82,8 @@ module _ {s : List ℕ} {at : ℕ} (most : ℕ) where
 
 weigh : (v g m sum : ℕ) → (v * 128 + g) * m + sum ≡ v * (m * 128) + (g * m + sum)
 weigh v g m sum =
-    let e : (v * 128 + g) * m ≡ v * (m * 128) + g * m = add-mul (v * 128) g m ∙ ap (λ (k : ℕ). k + g * m) (mul_assoc v 128 m ∙ ap (λ (k : ℕ). v * k) (mul_comm 128 m)) in
+    let e : (v * 128 + g) * m ≡ v * (m * 128) + g * m = add-mul (v * 128) g m ∙ ap (λ (k : ℕ). k + g * m)
+    (mul_assoc v 128 m ∙ ap (λ (k : ℕ). v * k) (mul_comm 128 m)) in
     omega (arith, e)
 
 scaled-more : (m sum g : ℕ) (p : Parsed ℕ) → scaled m sum (scaled 128 g p) ≡ scaled (m * 128) (g * m + sum) p
@@ -99,9 +101,6 @@ pub record Far (s : List ℕ) (at low most i weight sum : ℕ) : Type 0 where
   pub small : sum < weight
   pub weighs : weight * 128 ^ left ≡ tenth
   pub is : number-rest 128 low most 8 (drop at s) ≡ number-rest weight sum most left (drop i s)
-
-pub far-start : {s : List ℕ} {at low most : ℕ} → low < 128 → Far s at low most at 128 low
-far-start h = record { left = 8; place = refl; small = h; weighs = refl; is = refl }
 
 at_least : (v m : ℕ) → 0 < v → m ≤ m * v
 at_least v m h = omega (arith, mul-le-mul_right {m = 1} {n = v} m h, mul_comm m v)
@@ -181,9 +180,6 @@ module _ {s : List ℕ} {at low most i weight sum end : ℕ} (f : Far s at low m
                 ∙ rw (groups-more s i far-inside n (rw d at l) (rw d at k), ← d)
                 (ap (up_to most) (scaled-more weight sum (b - 128) (groups-read (drop (i + 1) s) n)));
           }
-
-  pub far-low : sum < tenth
-  far-low = omega (arith, f.small, weight-most weight f.left f.weighs)
 
   -- After the loop comes the tenth byte, or the bytes have ended before it.
   far-after : end ≤ i → number-rest 128 low most 8 (drop at s) ≡ number-rest tenth sum most 0 (drop i s)

@@ -2,7 +2,6 @@
 pub mod Readers
 pub mod Groups
 pub mod Comparing
-pub mod Signs
 pub mod Puts
 pub mod RoundTrip
 pub mod OneForm

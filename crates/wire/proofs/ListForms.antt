@@ -60,7 +60,8 @@ module _ {K A : Type 0} (O : Order K) (key : Codec K) (value : Codec A) where
   lift-above None e l h u = tt
   lift-above (Some p) e l h u = let d = is-less (O.cmp p e.0) h in (d, under-below O p e.0 l d u)
 
-  pub all-rising : (prev : Option K) (l : List (K × A)) → All (row O key value) (onto O key value) prev l → Above O key value prev l × (Rising O l × Every (FitsRow O key value) l)
+  pub all-rising : (prev : Option K) (l : List (K × A)) → All (row O key value) (onto O key value) prev l → Above O key value prev l ×
+      (Rising O l × Every (FitsRow O key value) l)
   all-rising None [] h = (tt, (tt, tt))
   all-rising (Some p) [] h = (tt, (tt, tt))
   all-rising prev (e ∷ l) h =
@@ -81,7 +82,8 @@ module _ {K A : Type 0} (O : Order K) (key : Codec K) (value : Codec A) (one_key
     mapped-inv None q e = never-got e
     mapped-inv (Some n) q e = (cc, cc)
 
-    pub rising-forth : (s : List ℕ) (m : Map O A) (r : List ℕ) → rising-read O key value most limit s ≡ got m r → (s ≡ (rows O key value most limit).write m.rows ++ r) × FitsMap O key value most limit m
+    pub rising-forth : (s : List ℕ) (m : Map O A) (r : List ℕ) → rising-read O key value most limit s ≡ got m r →
+        (s ≡ (rows O key value most limit).write m.rows ++ r) × FitsMap O key value most limit m
     unfolding rising-read
     rising-forth s m r e =
         let i = bind_inv ((rows O key value most limit).read s) (λ l r. mapped O key value most limit (as_map O l) r) e in

@@ -8,19 +8,10 @@ use Prim.Native.Nat.{ℕ, suc, ◌+◌, ◌-◌, ◌/◌, ◌%◌, ◌≤◌, �
 use native.Mathlib.Nat.{add-zero, suc-add, add-suc}
 use native.Mathlib.Numerals.{add-one}
 use native.Mathlib.Omega.{arith}
-use mir.Syntax.{w64}
-use mir.Val.{Fits}
-use lib.ListN.{length, take, drop, get_or, set, length-append, length-set, take-append-drop}
-use lib.Seq.{sets, sets-eq, length-sets, length-take-le, set_out, take_all, take-suc}
+use lib.ListN.{length, take, drop, set, length-append, length-set, take-append-drop}
+use lib.Seq.{sets, sets-eq, length-sets, length-take-le, set_out, take_all}
 use Rattle.wire.specs.Put.{Put}
 use Rattle.wire.specs.Number.{edge, number_bytes, lt-or-ge, number_small, number-big}
-
-module _ {l : List ℕ} {at b next : ℕ} (short : length l < edge) (e : next ≡ min (at + 1) edge) where
-  pub put_one : at < length l → Put l at (b ∷ []) next (set l at b)
-  put_one h = record { to = e; is = refl; short = short }
-
-  pub put-out : length l ≤ at → Put l at (b ∷ []) next l
-  put-out h = record { to = e; is = sym (set_out l at b h); short = short }
 
 sets-append : (xs ys l : List ℕ) (at : ℕ) → sets (sets l at xs) (at + length xs) ys ≡ sets l at (xs ++ ys)
 sets-append [] ys l at = rw add-zero
@@ -66,17 +57,6 @@ pub copied_none : {l : List ℕ} {at : ℕ} {xs : List ℕ} → Copied l at xs l
 copied_none = record { is = refl; within = omega arith }
 
 module _ {l : List ℕ} {at : ℕ} {xs m : List ℕ} {i : ℕ} (c : Copied l at xs m i) where
-  pub copied-length : length m ≡ length l
-  copied-length = ap length c.is ∙ length-sets l at (take i xs)
-
-  pub copied_more : i < length xs → Copied l at xs (set m (at + i) (get_or xs i 0)) (i + 1)
-  copied_more h = record {
-    is =
-        rw (add-one i, take-suc xs i 0 h, ← (sets-append (take i xs) (get_or xs i 0 ∷ []) l at), length-take-le i xs c.within)
-        (ap (λ (k : List ℕ). set k (at + i) (get_or xs i 0)) c.is);
-    within = omega arith;
-  }
-
   -- what is not copied is outside
   sets-rest : min (length xs) (length l - at) ≤ i → sets l at (take i xs) ≡ sets l at xs
   sets-rest h = ⊎_elim outside (λ k. ap (sets l at) (take_all i xs k)) (lt-or-ge i (length xs))
@@ -89,7 +69,8 @@ module _ {l : List ℕ} {at : ℕ} {xs m : List ℕ} {i : ℕ} (c : Copied l at 
           ∙ sets-append (take i xs) (drop i xs) l at
           ∙ ap (sets l at) (take-append-drop i xs)
 
-  pub copied_all : {count next : ℕ} → count ≡ min (length xs) (length l - at) → count ≤ i → next ≡ min (at + length xs) edge → length l < edge → Put l at xs next m
+  pub copied_all : {count next : ℕ} → count ≡ min (length xs) (length l - at) → count ≤ i → next ≡ min (at + length xs) edge → length l < edge → Put l at xs
+      next m
   copied_all e h n short = record { to = n; is = c.is ∙ sets-rest (omega arith); short = short }
 
 -- the buffer with ys in the place of as many bytes
@@ -104,9 +85,6 @@ pub record Left (l₀ : List ℕ) (at : ℕ) (xs l : List ℕ) (i : ℕ) (ys : L
   pub short : length l₀ < edge
   pub low : i ≤ edge
 
-pub left-all : {l : List ℕ} {at : ℕ} {xs : List ℕ} → length l < edge → Fits w64 at → Left l at xs l at xs
-left-all h k = record { to = refl; is = refl; short = h; low = omega (arith, k.fits) }
-
 module _ {l₀ : List ℕ} {at : ℕ} {xs l : List ℕ} {i : ℕ} where
   left_step : {b j : ℕ} {ys m : List ℕ} → Left l₀ at xs l i (b ∷ ys) → Put l i (b ∷ []) j m → Left l₀ at xs m j ys
   left_step {b} {j} {ys} {m} h p = record {
@@ -119,10 +97,8 @@ module _ {l₀ : List ℕ} {at : ℕ} {xs l : List ℕ} {i : ℕ} where
   left-put : {ys m : List ℕ} {r : ℕ} → Left l₀ at xs l i ys → Put l i ys r m → Put l₀ at xs r m
   left-put h p = record { to = p.to ∙ sym h.to; is = p.is ∙ sym h.is; short = h.short }
 
-  left-none : Left l₀ at xs l i [] → Put l₀ at xs i l
-  left-none h = record { to = omega (arith, h.to, h.low); is = sym h.is; short = h.short }
-
-  pub left-digit : {n j : ℕ} {m : List ℕ} → 128 ≤ n → Left l₀ at xs l i (number_bytes n) → Put l i ((n % 128 + 128) ∷ []) j m → Left l₀ at xs m j (number_bytes (n / 128))
+  pub left-digit : {n j : ℕ} {m : List ℕ} → 128 ≤ n → Left l₀ at xs l i (number_bytes n) → Put l i ((n % 128 + 128) ∷ []) j m → Left l₀ at xs m j
+      (number_bytes (n / 128))
   left-digit {n} h w p = left_step (rw (number-big n h) at w) p
 
   pub left-last : {n r : ℕ} {m : List ℕ} → n < 128 → Left l₀ at xs l i (number_bytes n) → Put l i (n ∷ []) r m → Put l₀ at xs r m

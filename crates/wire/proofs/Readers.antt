@@ -2,14 +2,14 @@
 -- Assumes nothing.
 use Rattle.std.specs.Prelude.{Result, Ok, Err, IsErr, IsErrAnd, ℤ}
 use Prim.Native.Nat.{ℕ, zero, suc, ◌+◌, ◌-◌, ◌≤◌, ◌<◌}
-use mathlib.Core.Path.{◌≡◌, refl, sym, ap, ◌∙◌}
+use mathlib.Core.Path.{◌≡◌, refl, ap}
 use mathlib.Core.List.{List, [], ◌∷◌}
 use native.Mathlib.Omega.{arith}
 use borrow.Author.Tests.{lt-leb, le-leb}
 use mir.Syntax.{w8}
 use mir.Val.{Fits}
-use lib.ListN.{get_or, length, take, drop, length-drop, drop_of_length-le}
-use lib.Seq.{drop-drop, take_all, take-nil}
+use lib.ListN.{get_or, length, take, drop, length-drop}
+use lib.Seq.{drop-drop}
 use Rattle.wire.specs.Parse.{Parsed, got, bind}
 use Rattle.wire.specs.Codec.{Bytes}
 use Rattle.wire.specs.Combinators.{all-bytes}
@@ -17,7 +17,7 @@ use Rattle.wire.specs.Number.{edge, number_read}
 use Rattle.wire.specs.Text.{text-read}
 use Rattle.wire.specs.Time.{unzigzag, time}
 use Rattle.wire.specs.declared.time.Time.{Time}
-use Rattle.wire.specs.Reading.{Reads, ReadsPart, part}
+use Rattle.wire.specs.Reading.{Reads, ReadsPart}
 use Rattle.wire.specs.declared.part.Part.{Part}
 use Rattle.wire.proofs.NumberForms.{number-forth}
 use Rattle.wire.specs.declared.fault.Fault.{Fault}
@@ -47,7 +47,8 @@ read-end w = record { same = refl; within = w }
 pub number-most : {img : List ℕ} {most at n m : ℕ} {o : Result (ℕ × ℕ) Fault} → Reads img (number_read most) at o → o ≡ Ok (n, m) → n ≤ most
 number-most {img} {most} {at} {n} {m} h d = (number-forth most (drop at img) n (drop m img) (rw d at h).same).1
 
-pub read-in : {A : Type 0} {img : List ℕ} {p : List ℕ → Parsed A} {at : ℕ} {a : A} {m : ℕ} {o : Result (A × ℕ) Fault} → Reads img p at o → o ≡ Ok (a, m) → m ≤ length img
+pub read-in : {A : Type 0} {img : List ℕ} {p : List ℕ → Parsed A} {at : ℕ} {a : A} {m : ℕ} {o : Result (A × ℕ) Fault} → Reads img p at o → o ≡ Ok (a, m) → m ≤
+    length img
 read-in h d = (rw d at h).within
 
 -- ---- a time
@@ -112,21 +113,15 @@ module _ {img : List ℕ} {at : ℕ} (least most : ℕ) {o : Result (ℕ × ℕ)
         let b = slice-bytes img f in
         record {
           same =
-              rw (g.same, le-leb least n l, le-leb n (length (drop q img)) (rw length-drop k), all-bytes (take n (drop q img)) (bytes_take n (drop q img) (bytes_drop q img b)), drop-drop n q img);
+              rw (
+                g.same,
+                le-leb least n l,
+                le-leb n (length (drop q img)) (rw length-drop k),
+                all-bytes (take n (drop q img))
+                    (bytes_take n (drop q img) (bytes_drop q img b)),
+                drop-drop n q img,
+              );
           within = (omega (arith, g.within), refl);
         }
 
 pub ruleset texts = (text-stop, text-small, text-ended, text-whole, handed)
-
--- ---- a part of the image
-
-module _ (s : List ℕ) (start size : ℕ) where
-  pub part-past : length s ≤ start → take (length s - length s) (drop (length s) s) ≡ part s start size
-  part-past h =
-      let k : length s ≤ length s = omega arith in
-      rw (drop_of_length-le s k, drop_of_length-le s h, take-nil, take-nil)
-
-  pub part_cut : length s - start ≤ size → take (length s - start) (drop start s) ≡ part s start size
-  part_cut h =
-      take_all (length s - start) (drop start s) (omega (arith, length-drop start s))
-      ∙ sym (take_all size (drop start s) (omega (arith, length-drop start s)))

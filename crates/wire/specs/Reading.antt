@@ -1,5 +1,5 @@
 -- What an answer of the readers says of the image: a value with the place after it, or why there is none.
-use Rattle.std.specs.Prelude.{◌≡◌, cond, List, ℕ, ◌+◌, ◌≤◌, ◌<◌, eqb, ltb, length, take, drop, Result, Ok, Err}
+use Rattle.std.specs.Prelude.{◌≡◌, cond, List, [], ℕ, ◌+◌, ◌≤◌, ◌<◌, eqb, ltb, length, take, drop, None, Option, Some, Result, Ok, Err}
 use Rattle.wire.specs.Parse.{Parsed, fault, got}
 use Rattle.wire.specs.declared.fault.Fault.{Fault}
 use Rattle.wire.specs.declared.fault.Fault.TheVariants.{Malformed}
@@ -8,6 +8,11 @@ use Rattle.wire.specs.declared.part.Part.{Part}
 -- a part of the image; past the end there is nothing
 abbrev pub part : List ℕ → ℕ → ℕ → List ℕ
 part img start size = take size (drop start img)
+
+-- the same, if there is one
+abbrev pub part_if : List ℕ → Option Part → List ℕ
+part_if img None = []
+part_if img (Some p) = part img p.start p.length
 
 -- a value with the bytes from the place after it on, or the fault
 abbrev pub said : {A : Type 0} → List ℕ → Result (A × ℕ) Fault → Parsed A

@@ -1,8 +1,19 @@
 // Why a reader stops.
 
+use std::fmt;
+
 // The bytes end before the field is complete, or the field is badly formed.
 #[derive(Clone, Copy, PartialEq, Eq)]
 pub enum Fault {
     Ended,
     Malformed,
+}
+
+impl fmt::Display for Fault {
+    fn fmt<W: fmt::Write>(&self, f: &mut fmt::Formatter<W>) -> fmt::Result {
+        f.write_str(match self {
+            Fault::Ended => "ended",
+            Fault::Malformed => "malformed",
+        })
+    }
 }

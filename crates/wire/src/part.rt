@@ -1,6 +1,6 @@
 // A part of a slice.
 ghost use Rattle.std.specs.Prelude.{◌≡◌};
-ghost use Rattle.wire.specs.Reading.{part};
+ghost use Rattle.wire.specs.Reading.{part, part_if};
 
 // The `length` bytes of the image from `start` on.
 #[derive(Clone, Copy, PartialEq, Eq)]
@@ -23,5 +23,15 @@ impl Part {
         }
         let stop = self.start + self.length;
         &image[self.start..stop]
+    }
+}
+
+// The part of the image, if there is one; else its empty start.
+pub fn part_if(image: &[u8], option: Option<Part>) -> &[u8]
+    ensures { result.now ≡ part_if image.now option }
+{
+    match option {
+        Some(part) => part.of(image),
+        None => &image[..0],
     }
 }

@@ -7,6 +7,14 @@ ghost use Rattle.wire.specs.Put.{Put};
 
 use crate::part::Part;
 
+// Rows that were written: the place after them, and how many they are. That a number holds one more is a clause where one is added, as at
+// any sum.
+#[derive(Clone, Copy)]
+pub struct Written {
+    pub end: usize,
+    pub count: u64,
+}
+
 // Writes `byte` at `at`, and answers the place after it.
 pub fn put_byte(buf: &mut [u8], at: usize, byte: u8) -> usize
     ensures { Put buf.old at (byte ∷ []) result buf.new }

@@ -8,6 +8,7 @@ ghost use Rattle.wire.specs.Put.{Put};
 
 use crate::fault::Fault;
 use crate::number::{put_number, read_number};
+use std::fmt;
 
 // The largest number of nanoseconds.
 pub const LAST_NANO: u64 = 999_999_999;
@@ -16,6 +17,13 @@ pub const LAST_NANO: u64 = 999_999_999;
 pub struct Time {
     pub seconds: i64,
     pub nanos: u32,
+}
+
+// Seconds and nanoseconds, a point between them.
+impl fmt::Display for Time {
+    fn fmt<W: fmt::Write>(&self, f: &mut fmt::Formatter<W>) -> fmt::Result {
+        write!(f, "{}.{}", self.seconds, self.nanos)
+    }
 }
 
 // The time at `at`, and the place after it.

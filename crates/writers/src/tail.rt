@@ -21,7 +21,7 @@ pub struct Tail {
 }
 
 // The tail at `at`, and the place after it.
-#[tactic(auto, using(wire::proofs::Readers::times))]
+#[tactic(auto, using(wire::proofs::Readers::times, survey::proofs::Numbered::request_of))]
 pub fn read_tail(img: &[u8], at: usize) -> Result<(Tail, usize), Fault>
     ensures { Reads img.now tailCodec.read at (meant tail_meant result) }
 {
@@ -33,7 +33,7 @@ pub fn read_tail(img: &[u8], at: usize) -> Result<(Tail, usize), Fault>
         next_id,
         bytes,
         operations,
-        request: Reason::numbered(number),
+        request: Reason::try_from(number).ok(),
     };
     Ok((tail, next))
 }

@@ -10,24 +10,21 @@ ghost use Rattle.layers.specs.Answered.{answered};
 use deltas::delta::{EntryDelta, attr_delta};
 use image::field::XattrValue;
 use image::name::Under;
-use lookup::search::find_name;
+use lookup::list::NameList;
 use nodes::field::{ReadField, read_maybe};
 use nodes::node::Node;
 use stack::name::open_named;
 use stack::question::{Question, decided};
 use std::ops::ControlFlow;
 use survey::refusal::Refusal;
-use wire::part::Part;
+use wire::part::{Part, part_if};
 
-// The value of an attribute: that very part of the image, empty if there is none.
+// The value of an attribute: that very part of the image, empty if there is none. Beside `has_xattr`: the project fixes both (docs/DECISIONS.md).
 pub fn get_xattr<'a>(img: &'a [u8], ino: u64, name: &[u8]) -> &'a [u8]
     ensures { result.now ≡ text_of (get_xattr usual img.now ino name.now) }
 {
     let value = value_of(img, ino, name).unwrap_or(None);
-    match value {
-        Some(text) => text.of(img),
-        None => &img[..0],
-    }
+    part_if(img, value)
 }
 
 // Whether there is such an attribute.
@@ -69,7 +66,12 @@ impl Question for Attribute<'_> {
         let Some(list) = attr_delta(delta).xattrs else {
             return ControlFlow::Continue(());
         };
-        match find_name(img, list, Under::Change, self.name) {
+        let changes = NameList {
+            img,
+            place: list,
+            what: Under::Change,
+        };
+        match changes.find(self.name) {
             Some(at) => {
                 let (change, _) = read_maybe::<XattrValue>(img, at).unwrap();
                 ControlFlow::Break(change)
@@ -79,8 +81,12 @@ impl Question for Attribute<'_> {
     }
 
     fn base(&self, img: &[u8], node: Option<Node>) -> Option<Part> {
-        let list = node?.meta.xattrs;
-        let at = find_name(img, list, Under::Value, self.name)?;
+        let values = NameList {
+            img,
+            place: node?.meta.xattrs,
+            what: Under::Value,
+        };
+        let at = values.find(self.name)?;
         let (value, _) = XattrValue::read(img, at).unwrap();
         Some(value)
     }

@@ -18,5 +18,6 @@ taken d n k xs ys within fits =
 
 pub loop-done-preserved : goal.loop-done-preserved
 loop-done-preserved g c =
-    let joined = taken c.loop-done.done c.in_ok-read.read (length c.loop-done.buf - c.loop-done.done) c.loop-done.buf c.read.new.buf c.loop-done.invariant.0 c.in_ok-read.ensures.bound.0 in
+    let joined = taken c.loop-done.done c.in_ok-read.read (length c.loop-done.buf - c.loop-done.done) c.loop-done.buf c.read.new.buf c.loop-done.invariant.0
+    c.in_ok-read.ensures.bound.0 in
     (search rules, search rules, subst (Consumes _ _) joined (Consumes-trans _ _ _ _ _ c.loop-done.invariant.2 c.in_ok-read.ensures.bytes.0))

@@ -1,25 +1,31 @@
 use native.Mathlib.Nat.{sub-add-eq, sub-zero}
 use native.Mathlib.Omega.{arith}
-use Rattle.change.proofs.Cutting.{cut-start, cut-over, cut-found, cut_on, cut-end}
-use Rattle.wire.specs.Orders.{by_number, less-N, equal-N, greater-N}
-use Rattle.image.specs.FieldLayout.{inode}
-use Rattle.image.specs.RecordLayout.{layer_record}
+use mathlib.Core.Bool.{false}
+use mathlib.Core.Path.{◌≡◌, sym, ◌∙◌}
+use Rattle.std.specs.Ordering.{is_gt}
+use Rattle.change.proofs.Cutting.{cut-start, cut-unread, cut-over, cut-stopped, cut-found, cut_on, cut-end}
 use Rattle.change.proofs.cut.cut_rows.Goals as goal
 
 pub loop-init : goal.loop-init
-loop-init c = rw sub-zero (cut-start by_number inode layer_record)
+loop-init g c = rw sub-zero (cut-start _ _ _)
 
-pub returns-then-inode-ino : goal.returns-then-inode-ino
-returns-then-inode-ino c = cut-found by_number inode layer_record c.loop.invariant (omega arith) c.read_number.ensures
-    _ c.unwrap_or-inode.ensures c.pass_record.ensures _ c.unwrap_or-after.ensures (equal-N c.args.ino c.unwrap_or-inode.result.0 (omega arith) (omega arith))
+pub returns-in_default : goal.returns-in_default
+returns-in_default g c = cut-unread _ _ _ c.loop.invariant (omega arith) c.compare.ensures c.in_default.is
+
+pub returns-then-beyond : goal.returns-then-beyond
+returns-then-beyond g c = cut-over _ _ _ c.loop.invariant (omega arith) c.compare.ensures c.in-Ok.is cc
+
+pub returns-in_default-pass : goal.returns-in_default-pass
+returns-in_default-pass g c = cut-stopped _ _ _ c.loop.invariant (omega arith) c.compare.ensures c.in-Ok.is c.pass.ensures c.in_default-pass.is
+
+pub returns-then-is_eq : goal.returns-then-is_eq
+returns-then-is_eq g c = cut-found _ _ _ c.loop.invariant (omega arith) c.compare.ensures c.in-Ok.is c.pass.ensures c.in-Ok-pass.is cc
 
 pub loop-preserved : goal.loop-preserved
-loop-preserved c = rw sub-add-eq (cut_on by_number inode layer_record c.loop.invariant (omega arith) c.read_number.ensures
-    _ c.unwrap_or-inode.ensures c.pass_record.ensures _ c.unwrap_or-after.ensures (greater-N c.args.ino c.unwrap_or-inode.result.0 (omega arith)))
+loop-preserved g c =
+    let within : is_gt c.in-Ok.order ≡ false = cc in
+    rw sub-add-eq (cut_on _ _ _ c.loop.invariant (omega arith) c.compare.ensures c.in-Ok.is c.pass.ensures c.in-Ok-pass.is
+    within (sym c.is_eq.ensures ∙ c.if-is_eq.false))
 
 pub returns-after-loop : goal.returns-after-loop
-returns-after-loop c = cut-end by_number inode layer_record c.loop.invariant (omega arith)
-
-pub returns-then-ino-inode : goal.returns-then-ino-inode
-returns-then-ino-inode c = cut-over by_number inode layer_record c.loop.invariant (omega arith) c.read_number.ensures
-    _ c.unwrap_or-inode.ensures (less-N c.args.ino c.unwrap_or-inode.result.0 (omega arith))
+returns-after-loop g c = cut-end _ _ _ c.loop.invariant (omega arith)

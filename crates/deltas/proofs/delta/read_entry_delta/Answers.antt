@@ -10,7 +10,8 @@ returns-in_default c = reads-tombstone c.read_code.ensures c.in_ok-code.was c.in
 
 pub returns-in_err-attr_delta : goal.returns-in_err-attr_delta
 returns-in_err-attr_delta c =
-    fields-stop c.read_code.ensures c.in_ok-code.was c.in-Some.is c.read_attr_delta.ensures c.in_err-attr_delta.was (handed c.from_residual-in_err-attr_delta.ensures)
+    fields-stop c.read_code.ensures c.in_ok-code.was c.in-Some.is c.read_attr_delta.ensures c.in_err-attr_delta.was
+    (handed c.from_residual-in_err-attr_delta.ensures)
 
 pub returns-in_err-delta : goal.returns-in_err-delta
 returns-in_err-delta c =

@@ -1,5 +1,5 @@
 use Prim.Native.Nat.{◌≤◌}
 use Rattle.explain.proofs.label.read_labels.Given as goal
 
-abbrev pub invariant-loop-i : goal.invariant-loop-i
-invariant-loop-i l = l.batches ≤ 16
+abbrev pub invariant-loop-label : goal.invariant-loop-label
+invariant-loop-label l = l.batches ≤ 16

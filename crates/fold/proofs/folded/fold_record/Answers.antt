@@ -1,14 +1,8 @@
 use Rattle.fold.proofs.Folding.{record-on, record-gone}
 use Rattle.fold.proofs.folded.fold_record.Goals as goal
 
--- src/folded.rt:50:1
 pub returns-in-Some : goal.returns-in-Some
 returns-in-Some c = rw (c.in-Node.is, c.in-Some.is) (record-on c.fold_delta.ensures)
 
--- src/folded.rt:50:1
-pub returns-in-None : goal.returns-in-None
-returns-in-None c = rw (c.in-Node.is, c.in-None.is) c.start_node.ensures
-
--- src/folded.rt:50:1
 pub returns-in-Tombstone : goal.returns-in-Tombstone
 returns-in-Tombstone c = rw c.in-Tombstone.is (record-gone c.args.below)

@@ -1,4 +1,4 @@
-use Rattle.fold.proofs.Merged.{gathered-few, merged-given}
+use Rattle.fold.proofs.Merged.{merged-given, gathered-few}
 use Rattle.fold.proofs.list.put_merged.Goals as goal
 
 pub put_list-requires : goal.put_list-requires

@@ -1,10 +1,6 @@
-use native.Mathlib.Omega.{arith}
-use Rattle.gather.proofs.Gathering.{gathering-more, gathering-all}
+use Rattle.merge.proofs.Lists.{pile-ascends}
+use Rattle.gather.specs.Gathers.{pile_in}
 use Rattle.gather.proofs.gather.gather_sources.Goals as goal
 
-pub loop-i-preserved : goal.loop-i-preserved
-loop-i-preserved c =
-    gathering-more c.delta_lists.result c.push_lists.ensures (omega arith) c.loop-i.invariant c.record.ensures c.in-Node.is c.delta_lists.ensures
-
-pub returns : goal.returns
-returns c = gathering-all c.base_lists.result c.push_lists-2.ensures (omega arith) c.loop-i.invariant c.base.result c.base.ensures c.base_lists.ensures
+pub invariant_of-result-clause-rise : goal.invariant_of-result-clause-rise
+invariant_of-result-clause-rise c = rw c.gather_lists-count.ensures.are (pile-ascends (pile_in c.args.listing c.args.of c.args.stack))

@@ -3,4 +3,4 @@ use Rattle.keep.proofs.Keeping.{kept-list}
 use Rattle.keep.proofs.keep.put_kept_list.Goals as goal
 
 pub returns : goal.returns
-returns c = kept-list (leads_in c.args.img.now c.args.merge) c.put_kept-counted.ensures c.put_number-first.ensures c.put_kept-kept.ensures
+returns c = kept-list c.args.list (leads_in c.args.merge.now) c.put_kept-counted.ensures c.put_number-first.ensures c.put_kept-kept.ensures

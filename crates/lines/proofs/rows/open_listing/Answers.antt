@@ -7,4 +7,4 @@ pub returns-in_err-snapshot_all : goal.returns-in_err-snapshot_all
 returns-in_err-snapshot_all c = opened-refused c.snapshot_all.ensures c.in_err-snapshot_all.was (handed c.from_residual.ensures)
 
 pub returns : goal.returns
-returns c = opened-lines c.snapshot_all.ensures c.in_ok-snapshot_all.was c.first_rows.ensures refl
+returns c = opened-lines c.snapshot_all.ensures c.in_ok-snapshot_all.was c.rows_at.ensures refl

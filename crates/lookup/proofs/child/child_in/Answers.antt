@@ -1,8 +1,8 @@
 use mathlib.Core.Path.{sym, ◌∙◌}
 use native.Mathlib.Nat.{sub-add-eq, sub-zero}
 use native.Mathlib.Omega.{arith}
-use Rattle.lookup.proofs.Searching.{read-ok, row-there}
-use Rattle.lookup.proofs.Children.{above-start, above-decided, above-into, within_end, within_on, within-past, within-here, Passed, passed-on, passed-last}
+use Rattle.lookup.proofs.Searching.{row-there}
+use Rattle.lookup.proofs.Children.{above-into, within_end, within_on, within-past, within-here, Passed, passed-on, passed-last}
 use Rattle.lookup.proofs.child.child_in.Goals as goal
 use Rattle.lookup.proofs.child.child_in.Goals.{Left-loop, else-loop-test, then-loop-test+in-Greater}
 
@@ -14,17 +14,8 @@ passed c =
       | then-loop-test+in-Greater w ↦ within-past c.loop.invariant (omega arith) w.read_row-row.ensures (sym w.compare_part.ensures ∙ w.in-Greater.is)
     ]
 
-pub layers-init : goal.layers-init
-layers-init c = above-start
-
-pub entries_at-requires : goal.entries_at-requires
-entries_at-requires c = omega (arith, c.layers.invariant.low)
-
-pub rows_of-rows-requires : goal.rows_of-rows-requires
-rows_of-rows-requires c = (rw c.in-Some.is at c.entries_at.ensures).0
-
 pub loop-init : goal.loop-init
-loop-init c = rw sub-zero (above-into c.layers.invariant (rw c.in-Some.is at c.entries_at.ensures) c.rows_of-rows.ensures)
+loop-init c = rw sub-zero (above-into c.layers.invariant c.in-Some.list (rw c.in-Some.is at c.entries_at.ensures) c.rows-rows.ensures)
 
 pub read_row-row-requires : goal.read_row-row-requires
 read_row-row-requires c = row-there (omega arith) c.loop.invariant.seeks.standing
@@ -38,11 +29,7 @@ loop-preserved c = rw sub-add-eq (within_on c.loop.invariant (omega arith) c.rea
 pub returns-in-Some : goal.returns-in-Some
 returns-in-Some c = passed-last (passed (goal.at.returns-in-Some c).Left-loop) (omega arith)
 
-pub returns-in_default : goal.returns-in_default
-returns-in_default c = above-decided c.layers.invariant (rw c.in_default.is at c.entries_at.ensures)
-
 pub returns-in-Equal : goal.returns-in-Equal
-returns-in-Equal c = within-here c.loop.invariant (omega arith) c.read_row-row.ensures (sym c.compare_part.ensures ∙ c.in-Equal.is) c.read_number.ensures c.unwrap-inode.ensures
-
-pub unwrap-inode-requires : goal.unwrap-inode-requires
-unwrap-inode-requires c = read-ok c.read_row-row.ensures.held c.read_number.ensures
+returns-in-Equal c =
+    within-here c.loop.invariant (omega arith) c.read_row-row.ensures (sym c.compare_part.ensures ∙ c.in-Equal.is)
+    c.read_number.ensures c.unwrap-inode.ensures

@@ -1,10 +1,13 @@
+use mathlib.Core.Path.{◌≡◌}
+use Prim.Native.Nat.{◌+◌, ◌≤◌}
 use lib.ListN.{length}
-use Rattle.merge.specs.Merges.{decided_rows}
-use Rattle.merge.proofs.Settling.{Counting}
+use Rattle.merge.specs.Merges.{rows_decided}
 use Rattle.merge.proofs.merge.count_rows.Given as goal
 
-abbrev pub invariant-loop-count : goal.invariant-loop-count
-invariant-loop-count l = Counting l.img l.initial.sources l.sources l.room l.count
-
-abbrev pub decreases-loop-count : goal.decreases-loop-count
-decreases-loop-count l = length (decided_rows l.img l.sources)
+abbrev pub invariant-loop-row : goal.invariant-loop-row
+invariant-loop-row l = record {
+  can : (goal.iterator-loop-row).can_next l._row-iterator;
+  ends : (goal.iterator-loop-row).is_finite l._row-iterator;
+  are : length (rows_decided l.initial._row-iterator) ≡ l.count + length (rows_decided l._row-iterator);
+  low : l.count ≤ l.room;
+}

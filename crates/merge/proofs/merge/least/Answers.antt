@@ -1,9 +1,12 @@
-use native.Mathlib.Omega.{arith}
+use mathlib.Core.Path.{◌≡◌}
+use Rattle.std.proofs.Common.{rules}
 use Rattle.merge.proofs.Merging.{best_none, best-more}
 use Rattle.merge.proofs.merge.least.Goals as goal
 
-pub loop-i-init : goal.loop-i-init
-loop-i-init c = best_none c.args.img.now c.args.sources.now
+pub loop-source-init : goal.loop-source-init
+loop-source-init c =
+    let z : c.into_iter-source-iterator.result.iter.rest.now ≡ c.args.sources.now = search rules in
+    rw z (best_none c.args.img.now c.args.sources.now)
 
-pub loop-i-preserved : goal.loop-i-preserved
-loop-i-preserved c = best-more c.args.sources.now c.loop-i.i _ c.loop-i.invariant (omega arith) (omega arith) c.head_of.ensures c.upper-best.ensures
+pub loop-source-preserved : goal.loop-source-preserved
+loop-source-preserved c = best-more c.in-Some.source.now c.loop-source.invariant c.in-Some.ensures.steps c.head_of.ensures c.upper-best.ensures

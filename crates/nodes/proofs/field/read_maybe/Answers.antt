@@ -1,5 +1,4 @@
-use Rattle.wire.proofs.Readers.{number-most, handed}
-use Rattle.nodes.proofs.Values.{maybe-stop, maybe-field}
+use Rattle.wire.proofs.Readers.{number-most}
 use Rattle.nodes.proofs.field.read_maybe.Goals as goal
 
 pub read_if-requires : goal.read_if-requires

@@ -1,5 +1,4 @@
-use Rattle.wire.proofs.Readers.{handed}
-use Rattle.nodes.proofs.Nodes.{kind-stops, reads-node}
+use Rattle.nodes.proofs.Nodes.{reads-node}
 use Rattle.nodes.proofs.node.read_node.Goals as goal
 
 pub returns : goal.returns

@@ -12,5 +12,5 @@ pub returns-then-no_delta : goal.returns-then-no_delta
 returns-then-no_delta c = insert-refused _ c.in_ok-sections.ensures.sections.1 _ (sym c.no_delta.ensures ∙ c.if-no_delta.true)
 
 pub returns : goal.returns
-returns c = insert-made c.in_ok-sections.ensures.sections.1 c.cut_records-cut.ensures _ (sym c.no_delta.ensures ∙ c.if-no_delta.false)
+returns c = insert-made c.in_ok-sections.ensures.sections.1 c.cut_at-cut.ensures _ (sym c.no_delta.ensures ∙ c.if-no_delta.false)
     c.replaced-new.ensures c.write_record.ensures

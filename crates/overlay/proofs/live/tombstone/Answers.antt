@@ -8,4 +8,4 @@ pub returns-in_err-sections : goal.returns-in_err-sections
 returns-in_err-sections c = changes-unopened (Call.tombstone _) _ c.open_sections.ensures.verdict c.in_err-sections.was (handed c.from_residual.ensures)
 
 pub returns : goal.returns
-returns c = tombstone-made c.in_ok-sections.ensures.sections.1 c.cut_records-cut.ensures c.replaced-new.ensures c.write_record.ensures
+returns c = tombstone-made c.in_ok-sections.ensures.sections.1 c.cut_at-cut.ensures c.replaced-new.ensures c.write_record.ensures

@@ -8,7 +8,8 @@ pub loop-row-preserved : goal.loop-row-preserved
 loop-row-preserved c = record {
   passed = passed_on c.loop-row.invariant.passed (omega arith) c.inode_after.ensures c.in_ok-inode.was c.pass_held.ensures c.in_ok-here.was (omega arith);
   seeking =
-      seeking-on (held c.args.what) c.args.img.now c.args.sought c.loop-row.invariant.seeking c.loop-row.before (omega arith) c.in_ok-inode.ensures c.in_ok-here.ensures c.then_some.ensures c.or-place.ensures (omega arith);
+      seeking-on (held c.args.what) c.args.img.now c.args.sought c.loop-row.invariant.seeking c.loop-row.before (omega arith) c.in_ok-inode.ensures
+      c.in_ok-here.ensures c.then_some.ensures c.or-place.ensures (omega arith);
 }
 
 pub returns : goal.returns

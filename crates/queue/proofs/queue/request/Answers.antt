@@ -1,5 +1,6 @@
 use native.Mathlib.Omega.{arith}
 use Rattle.wire.proofs.Readers.{handed}
+use Rattle.survey.proofs.Numbered.{request_of}
 use Rattle.rules.specs.Calls.{Call}
 use Rattle.change.proofs.Finishing.{changes-unopened}
 use Rattle.queue.proofs.Staging.{tail-ok, request-refused, request-made}
@@ -16,4 +17,4 @@ unwrap-requires c = tail-ok c.in_ok-sections.ensures.sections.1 _ c.read_tail.en
 
 pub returns : goal.returns
 returns c = request-made c.in_ok-sections.ensures.sections.1 c.read_tail.ensures c.unwrap.ensures _ c.if-reason-gt5.false
-    (omega arith) c.write_queue.ensures
+    (rw c.ok.ensures.value (request_of _ c.try_from.ensures (omega (arith, c.if-reason-gt5.false)))) c.write_queue.ensures

@@ -8,15 +8,18 @@ returns-in_err-id c = going-unkeyed c.loop-batch.invariant (omega arith) c.inode
 
 pub returns-in_err-records : goal.returns-in_err-records
 returns-in_err-records c =
-    going-headless c.loop-batch.invariant (omega arith) c.inode_after.ensures c.in_ok-id.was c.pass_head_rest.ensures c.in_err-records.was (handed c.from_residual-in_err-records.ensures)
+    going-headless c.loop-batch.invariant (omega arith) c.inode_after.ensures c.in_ok-id.was c.pass_head_rest.ensures c.in_err-records.was
+    (handed c.from_residual-in_err-records.ensures)
 
 pub returns-in_err-place : goal.returns-in_err-place
 returns-in_err-place c =
-    going-stop c.loop-batch.invariant (omega arith) c.inode_after.ensures c.in_ok-id.was c.pass_head_rest.ensures c.in_ok-records.was c.find_inode.ensures c.in_err-place.was (handed c.from_residual-in_err-place.ensures)
+    going-stop c.loop-batch.invariant (omega arith) c.inode_after.ensures c.in_ok-id.was c.pass_head_rest.ensures c.in_ok-records.was c.find_inode.ensures
+    c.in_err-place.was (handed c.from_residual-in_err-place.ensures)
 
 pub loop-batch-preserved : goal.loop-batch-preserved
 loop-batch-preserved c =
-    going_on c.loop-batch.invariant (omega arith) c.inode_after.ensures c.in_ok-id.was c.pass_head_rest.ensures c.in_ok-records.was c.find_inode.ensures c.in_ok-place.was c.pushed-stack.ensures (omega arith)
+    going_on c.loop-batch.invariant (omega arith) c.inode_after.ensures c.in_ok-id.was c.pass_head_rest.ensures c.in_ok-records.was c.find_inode.ensures
+    c.in_ok-place.was c.pushed-stack.ensures (omega arith)
 
 pub returns : goal.returns
 returns c = going-all c.loop-batch.invariant (omega arith)

@@ -1,6 +1,6 @@
 use native.Mathlib.Omega.{arith}
 use Rattle.std.specs.Prelude.{◌≡◌}
-use Rattle.wire.proofs.Groups.{far-start, far-inside, far-last, far-more, far-group, far-sum, far-high, far-high-sum, far-weight, far-low, far-rest}
+use Rattle.wire.proofs.Groups.{far-last, far-more, far-group, far-sum, far-high, far-high-sum, far-weight, far-rest}
 use Rattle.wire.proofs.number.long_number.Goals as goal
 
 pub overflow_mul-group : goal.overflow_mul-group

@@ -1,5 +1,4 @@
-use native.Mathlib.Omega.{arith}
-use Rattle.wire.proofs.Puts.{left-all, left-digit, left-last, put-length}
+use Rattle.wire.proofs.Puts.{left-digit, left-last}
 use Rattle.wire.proofs.number.put_number.Goals as goal
 
 pub loop-rest-preserved : goal.loop-rest-preserved

@@ -1,5 +1,0 @@
-use Rattle.keep.proofs.Leading.{Leading}
-use Rattle.keep.proofs.below.names_in.Given as goal
-
-abbrev pub invariant-loop-i : goal.invariant-loop-i
-invariant-loop-i l = Leading l.stack l.all l.i
