@@ -26,7 +26,7 @@ pub fn fold_entries(img: &[u8], target: &mut [u8]) -> Result<usize, Refusal>
 }
 
 // Folds every layer into the base, and drops non-directories with 0 links. Its scratch is that of a fold: a walk and the sources of one list,
-// under 9 KB of stack whatever the image.
+// under 10 KiB of stack whatever the image.
 pub fn snapshot_all(img: &[u8], target: &mut [u8]) -> Result<usize, Refusal>
     ensures { Changes (snapshot_all usual img.now (length target.old)) target.old result target.new }
 {
