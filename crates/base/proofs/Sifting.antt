@@ -123,7 +123,8 @@ pub record Writing (l₀ : List ℕ) (at : ℕ) (all : List (ℕ × Pieces)) (d 
   pub on : (r : ℕ) (k : List ℕ) → Put l n.end (nodes_bytes (nodes_of d (stacks_left w))) r k → Put l₀ at (nodes_bytes (nodes_of d all)) r k
   pub are : length (nodes_of d all) ≡ n.count + length (nodes_of d (stacks_left w))
 
-pub writing-none : {l : List ℕ} {at : ℕ} (w : Walk) (d : Bool) → length (stacks_left w) ≤ edge → Fits w64 at → Writing l at (stacks_left w) d l w (record { end = at; count = 0 })
+pub writing-none : {l : List ℕ} {at : ℕ} (w : Walk) (d : Bool) → length (stacks_left w) ≤ edge → Fits w64 at
+    → Writing l at (stacks_left w) d l w (record { end = at; count = 0 })
 writing-none w d few k =
     record {
       long = refl;

@@ -330,7 +330,9 @@ module _ {img : List ℕ} {n : ℕ} {p : Sections} {rows : Rows} (a : RowsAt img
         let low = g.low in
         let y : i ≡ n = omega arith in
         record {
-          opens = λ s k m. record { ready = opening-ready o l s k m; are = sources-are s k m; few = opening-few s k m; at = rw y at (g.at s p.tail (given k m)) };
+          opens = λ s k m.
+              let stands = rw y at (g.at s p.tail (given k m)) in
+              record { ready = opening-ready o l s k m; are = sources-are s k m; few = opening-few s k m; at = stands };
         }
 
 -- ---- where the records of a batch start
