@@ -1,8 +1,9 @@
 -- A record held against its stack below. Document 01: "Each directory delta there is held against the layers below."
-use Rattle.std.specs.Prelude.{Bool, true, false, List, [], ◌∷◌, ℕ, None, Option, Some}
-use Rattle.image.specs.Meaning.{Kind, Node, Record, directory, file, symlink, special, tombstone}
+use Rattle.std.specs.Prelude.{Bool, false, List, [], ◌∷◌, ℕ, None, Option, Some}
+use Rattle.image.specs.Meaning.{Kind, Node, Record, tombstone}
 use Rattle.survey.specs.declared.batch.InodeLayerStack.{InodeLayerStack}
 use Rattle.rules.specs.Reads.{look, type, child}
+use Rattle.rules.specs.Queue.{is_directory as of_directory}
 use Rattle.rules.specs.Normalise.{normal_record}
 use Rattle.stack.specs.Stacks.{shown, RecordIs}
 use Rattle.stack.specs.declared.stack.Stack.{Stack}
@@ -12,12 +13,10 @@ use Rattle.deltas.specs.Deltas.{entry_meant}
 use Rattle.deltas.specs.declared.delta.EntryDelta.{EntryDelta}
 use Rattle.walk.specs.Walks.{Pieces}
 
+-- none is no directory
 abbrev pub is_directory : Option Kind → Bool
 is_directory None = false
-is_directory (Some directory) = true
-is_directory (Some file) = false
-is_directory (Some symlink) = false
-is_directory (Some (special s)) = false
+is_directory (Some k) = of_directory k
 
 -- held against a stack in the image
 abbrev pub normal_at : List ℕ → InodeLayerStack → Record → Record

@@ -30,7 +30,8 @@ use Rattle.rules.proofs.Asked.{over-fine, entry-count, attribute-count}
 use Rattle.stack.specs.InStack.{StackOf, Opens, shown_in}
 use Rattle.stack.specs.declared.stack.Stack.{Stack}
 use Rattle.rows.specs.Listings.{rows_in}
-use Rattle.rows.specs.Plans.{entry_of, is_directory, is_listed, list_call, room_for, plan_rows, plan_entries, PlansRows, Plans, Fills, Filled}
+use Rattle.rules.specs.Queue.{is_directory}
+use Rattle.rows.specs.Plans.{entry_of, is_listed, list_call, room_for, plan_rows, plan_entries, PlansRows, Plans, Fills, Filled}
 use Rattle.rows.specs.declared.listing.Entry.{Entry}
 use Rattle.rows.specs.declared.listing.Plan.{Plan}
 use Rattle.gather.specs.declared.gather.Listing.{Listing}

@@ -5,8 +5,8 @@ use Rattle.rules.specs.Answers.{Answer, refused, answer}
 use Rattle.rules.specs.Changes.{map_if}
 use Rattle.rules.specs.ReadCalls.{Row, map_answer, filled, list_directory, list_xattrs}
 use Rattle.rules.specs.Initial.{usual}
+use Rattle.rules.specs.Queue.{is_directory}
 use Rattle.rules.specs.FileAttrs.{FileAttr}
-use Rattle.image.specs.Meaning.{Kind, directory, file, symlink, special}
 use Rattle.survey.specs.declared.refusal.Refusal.{Refusal}
 use Rattle.layers.specs.Answered.{answered, filled_rows}
 use Rattle.merge.specs.Merges.{rows_decided}
@@ -23,12 +23,6 @@ abbrev pub in_entries : Answer (Option (List Row)) → Answer (Option (List Entr
 in_entries a = map_answer (map_if (map entry_of)) a
 
 -- "Listing: none unless the attributes' type is directory." "Names: none without attributes"
-abbrev pub is_directory : Kind → Bool
-is_directory directory = true
-is_directory file = false
-is_directory symlink = false
-is_directory (special s) = false
-
 abbrev pub is_listed : Listing → Option FileAttr → Bool
 is_listed l None = false
 is_listed L.Entries (Some a) = is_directory a.type
