@@ -1,6 +1,6 @@
 -- What fold makes of a node by value; its attributes and entries are lists beside it. Document 01: "Delta on nothing: a node of initial values
 -- (parent 1, empty target), then applied. Delta of the node's kind: applied; created time is dropped, device kept."
-use Rattle.std.specs.Prelude.{◌≡◌, List, ℕ, Option, unwrap_or}
+use Rattle.std.specs.Prelude.{◌≡◌, List, ℕ}
 use Rattle.wire.specs.Orders.{by_bytes}
 use Rattle.wire.specs.Maps.{meet, empty}
 use Rattle.image.specs.Meaning as M
@@ -12,7 +12,6 @@ use Rattle.nodes.specs.Options.{text_at}
 use Rattle.nodes.specs.Listed.{list_of}
 use Rattle.nodes.specs.Attrs.{fields_meant}
 use Rattle.deltas.specs.Deltas.{attr_of, change_meant, delta_meant}
-use Rattle.wire.specs.declared.part.Part.{Part}
 use Rattle.nodes.specs.declared.attr.AttrDelta.{AttrDelta}
 use Rattle.deltas.specs.declared.delta.NodeDelta.{NodeDelta}
 use Rattle.nodes.specs.declared.node.InodeMeta.{InodeMeta}
@@ -46,35 +45,6 @@ on_entries (directory p added removed) es = add_all added (remove_all removed es
 on_entries (file n) es = es
 on_entries (symlink t) es = es
 on_entries (special s device) es = es
-
--- ---- what the code makes of a node
-
-abbrev pub with_parent : Option ℕ → NodeKind → NodeKind
-with_parent o (K.Directory parent p) = K.Directory (unwrap_or o parent) p
-with_parent o (K.File size) = K.File size
-with_parent o (K.Symlink t) = K.Symlink t
-with_parent o K.Fifo = K.Fifo
-with_parent o (K.CharDevice rdev) = K.CharDevice rdev
-with_parent o (K.BlockDevice rdev) = K.BlockDevice rdev
-with_parent o K.Socket = K.Socket
-
-abbrev pub with_size : Option ℕ → NodeKind → NodeKind
-with_size o (K.Directory parent p) = K.Directory parent p
-with_size o (K.File size) = K.File (unwrap_or o size)
-with_size o (K.Symlink t) = K.Symlink t
-with_size o K.Fifo = K.Fifo
-with_size o (K.CharDevice rdev) = K.CharDevice rdev
-with_size o (K.BlockDevice rdev) = K.BlockDevice rdev
-with_size o K.Socket = K.Socket
-
-abbrev pub with_target : Option Part → NodeKind → NodeKind
-with_target o (K.Directory parent p) = K.Directory parent p
-with_target o (K.File size) = K.File size
-with_target o (K.Symlink t) = K.Symlink (unwrap_or o t)
-with_target o K.Fifo = K.Fifo
-with_target o (K.CharDevice rdev) = K.CharDevice rdev
-with_target o (K.BlockDevice rdev) = K.BlockDevice rdev
-with_target o K.Socket = K.Socket
 
 -- ---- what it means
 

@@ -1,4 +1,4 @@
-// What a delta makes of a node by value.
+// What a delta makes of a node, or of nothing.
 #![tactic(auto)]
 
 pub mod node;

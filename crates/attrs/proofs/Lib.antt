@@ -2,3 +2,4 @@
 pub mod Rows
 pub mod Others
 pub mod Lengths
+pub mod Linked

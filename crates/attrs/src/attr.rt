@@ -1,6 +1,5 @@
 // The attributes of a node, and what a delta makes of attributes.
 ghost use Rattle.std.specs.Prelude.{ℕ, ◌≡◌, List};
-ghost use Rattle.wire.specs.Time.{epoch as epochTime};
 ghost use Rattle.rules.specs.Initial.{usual};
 ghost use Rattle.rules.specs.Fold.{given, cut};
 ghost use Rattle.rules.specs.FileAttrs.{base_attr, base_device, base_perm, base_size, change_device, first_attr};
@@ -11,12 +10,13 @@ ghost use Rattle.attrs.specs.Meant.{attr_meant};
 ghost use Rattle.attrs.specs.Attrs.{Sized, Applies, LinkIn};
 
 use crate::node::FileAttr;
-use deltas::delta::{NodeDelta, attr_delta};
+use deltas::delta::NodeDelta;
 use image::kind::FileType;
 use nodes::node::{Node, NodeKind};
 use wire::time::Time;
 
-// Initial permission and links of each type, by its number: directory, file, symlink, pipe, character, block, socket.
+// Initial permission and links of each type, by its number: directory, file, symlink, pipe, character, block, socket. The project fixes this form, an
+// array of arrays (docs/DECISIONS.md).
 const INITIAL: [[u32; 2]; 7] = [
     [0o755, 2],
     [0o644, 1],
@@ -27,57 +27,42 @@ const INITIAL: [[u32; 2]; 7] = [
     [0o777, 1],
 ];
 
-pub fn initial_perm(file_type: FileType) -> u32
-    ensures { result ≡ (usual (kind_meant file_type)).perm }
+// The initial permission and links of a type.
+pub fn initial(file_type: FileType) -> (u32, u32)
+    ensures { (result.0 ≡ (usual (kind_meant file_type)).perm) × (result.1 ≡ (usual (kind_meant file_type)).links) }
 {
-    let row = file_type.number() as usize;
-    INITIAL[row][0]
+    let [perm, links] = INITIAL[file_type.number() as usize];
+    (perm, links)
 }
 
-pub fn initial_nlink(file_type: FileType) -> u32
-    ensures { result ≡ (usual (kind_meant file_type)).links }
-{
-    let row = file_type.number() as usize;
-    INITIAL[row][1]
-}
-
-// The device number that a delta on nothing starts with.
+// The device number that a delta on nothing starts with. Beside `node_rdev`: a trait for both would have the same arms in two impls.
 fn delta_rdev(delta: NodeDelta) -> u32
     ensures { (img : List ℕ) → result ≡ change_device (change_meant img delta) }
 {
     match delta {
-        NodeDelta::CharDevice(special) => special.rdev,
-        NodeDelta::BlockDevice(special) => special.rdev,
+        NodeDelta::CharDevice(special) | NodeDelta::BlockDevice(special) => special.rdev,
         _ => 0,
     }
 }
 
-pub fn epoch() -> Time
-    ensures { result ≡ epochTime }
-{
-    Time {
-        seconds: 0,
-        nanos: 0,
-    }
-}
-
-// What a delta on nothing starts from.
+// What a delta on nothing starts from. Beside `initial_meta` (apply), as `applied` beside `apply_to_meta`.
 pub fn initial_attr(delta: NodeDelta, ino: u64) -> FileAttr
     ensures { (img : List ℕ) → attr_meant result ≡ first_attr usual ino (change_meant img delta) }
 {
     let file_type = delta.file_type();
+    let (perm, nlink) = initial(file_type);
     FileAttr {
         ino,
         file_type,
-        perm: initial_perm(file_type),
-        nlink: initial_nlink(file_type),
+        perm,
+        nlink,
         uid: 0,
         gid: 0,
         rdev: delta_rdev(delta),
         size: 0,
-        atime: epoch(),
-        mtime: epoch(),
-        ctime: epoch(),
+        atime: Time::EPOCH,
+        mtime: Time::EPOCH,
+        ctime: Time::EPOCH,
     }
 }
 
@@ -104,25 +89,21 @@ fn size_or(delta: NodeDelta, old: u64) -> u64
 pub fn applied(delta: NodeDelta, attr: FileAttr) -> FileAttr
     ensures { Applies delta attr result }
 {
-    let file_type = attr.file_type;
-    let rdev = attr.rdev;
-    let change = attr_delta(delta);
+    let change = delta.attr_delta();
     FileAttr {
-        ino: attr.ino,
-        file_type,
         perm: mode_or(change.mode, attr.perm),
         nlink: change.nlink.unwrap_or(attr.nlink),
         uid: change.uid.unwrap_or(attr.uid),
         gid: change.gid.unwrap_or(attr.gid),
-        rdev,
         size: size_or(delta, attr.size),
         atime: change.atime.unwrap_or(attr.atime),
         mtime: change.mtime.unwrap_or(attr.mtime),
         ctime: change.ctime.unwrap_or(attr.ctime),
+        ..attr
     }
 }
 
-// The same on attributes that are lent to be altered.
+// The same, in place. The project fixes this form, for a caller of its own (docs/DECISIONS.md).
 pub fn apply_to_attr(delta: NodeDelta, attr: &mut FileAttr)
     ensures { Applies delta attr.old attr.new }
 {
@@ -143,8 +124,7 @@ fn node_rdev(kind: NodeKind) -> u32
     ensures { (img : List ℕ) → result ≡ base_device (body_meant img kind) }
 {
     match kind {
-        NodeKind::CharDevice { rdev } => rdev,
-        NodeKind::BlockDevice { rdev } => rdev,
+        NodeKind::CharDevice { rdev } | NodeKind::BlockDevice { rdev } => rdev,
         _ => 0,
     }
 }
@@ -166,9 +146,6 @@ pub fn node_attr(node: Node, ino: u64) -> FileAttr
 {
     let meta = node.meta;
     let kind = node.kind;
-    let atime = meta.atime;
-    let mtime = meta.mtime;
-    let ctime = meta.ctime;
     FileAttr {
         ino,
         file_type: kind.file_type(),
@@ -178,8 +155,8 @@ pub fn node_attr(node: Node, ino: u64) -> FileAttr
         gid: meta.gid,
         rdev: node_rdev(kind),
         size: node_size(kind),
-        atime,
-        mtime,
-        ctime,
+        atime: meta.atime,
+        mtime: meta.mtime,
+        ctime: meta.ctime,
     }
 }

@@ -1,4 +1,4 @@
-// Types and attributes of nodes, and what deltas make of attributes: the port of src/node.rs.
+// The attributes of a node, and what deltas make of them. The Rust program has this in src/node.rs.
 #![tactic(auto)]
 
 pub mod attr;

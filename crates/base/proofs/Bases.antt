@@ -83,7 +83,7 @@ module _ (d : Bool) where
       go Greater ih = ih
 
 -- every layer folded in; and without what a snapshot drops
-abbrev pub folded_base : Bool → List Layer → Base → Base
+abbrev folded_base : Bool → List Layer → Base → Base
 folded_base true ls b = keep by_number (λ i n. kept n) (fold_all usual ls b)
 folded_base false ls b = fold_all usual ls b
 

@@ -18,6 +18,8 @@ use Rattle.image.specs.KindLayout.{kind}
 use Rattle.image.specs.FileTypes.{kind_meant}
 use Rattle.image.specs.FieldLayout.{word, moment, attributes}
 use Rattle.image.specs.NodeLayout.{meta_parts, meta, body_part, body_part_of, node}
+use Rattle.image.specs.Places.{Ends}
+use Rattle.image.proofs.Passing.{ends-got, ends-fault}
 use Rattle.image.proofs.OneForm.{node-one}
 use Rattle.image.specs.declared.kind.FileType.{FileType}
 use Rattle.base.specs.Nodes.{Keeps, KeptAt}
@@ -70,20 +72,20 @@ module _ {img : List ℕ} {p : ℕ} {o : Result (FileType × ℕ) Fault} (h : Re
         let j : x.after_kind ≡ drop a img = cc in
         (i, j)
 
-    module _ {u : Result (ℕ × ℕ) Fault} (h2 : Reads img (number_read last_count) a u) where
+    module _ {u : Result ℕ Fault} (h2 : Ends img (number_read last_count) a u) where
       pub kept-unperm : {f : Fault} → u ≡ Err f → {r : Result Bool Fault} → KeptAt img p r
-      kept-unperm e = let g = rw e at h2 in
-          record { is = λ m t w. let x = starts (drop p img) m t w in never-got (sym g.same ∙ (rw (first x).1 at x.perm_is)) }
+      kept-unperm e = let g = ends-fault (rw e at h2) in
+          record { is = λ m t w. let x = starts (drop p img) m t w in never-got (sym g ∙ (rw (first x).1 at x.perm_is)) }
 
-      module _ {perm b : ℕ} (d2 : u ≡ Ok (perm, b)) where
+      module _ {b : ℕ} (d2 : u ≡ Ok b) where
         second : {m : M.Node} (x : Starts (drop p img) m) → x.after_perm ≡ drop b img
         second {m} x =
-            let g = rw d2 at h2 in
+            let g = ends-got (rw d2 at h2) in
             let y = (first x).1 in
-            let z = sym (rw y at x.perm_is) ∙ g.same in
+            let z = sym (rw y at x.perm_is) ∙ g.1 in
             cc
 
-        module _ {v : Result (ℕ × ℕ) Fault} (h3 : Reads img (number_read last_count) b v) where
+        module _ {v : Result (ℕ × ℕ) Fault} (h3 : Reads img (number_read last_count) b (meant (λ n. n) v)) where
           pub kept-unlinked : {f : Fault} → v ≡ Err f → {r : Result Bool Fault} → KeptAt img p r
           kept-unlinked e = let g = rw e at h3 in
               record { is = λ m t w. let x = starts (drop p img) m t w in never-got (sym g.same ∙ (rw (second x) at x.links_is)) }

@@ -1,8 +1,9 @@
 -- Which nodes of a walk are kept, and the loop that writes and counts them.
 -- Assumes nothing.
 use Rattle.std.specs.Prelude.{None, Option, Some}
+use Rattle.std.specs.Option.{option_zip}
 use mathlib.Core.Path.{◌≡◌, refl, sym, ap, ◌∙◌}
-use mathlib.Core.Bool.{Bool, true, false}
+use mathlib.Core.Bool.{Bool, true, false, cond}
 use mathlib.Core.Logic.{⊎_elim}
 use mathlib.Core.List.{List, [], ◌++◌, append-nil}
 use Prim.Native.Nat.{ℕ, ◌+◌, ◌-◌, ◌≤◌, ◌<◌}
@@ -21,6 +22,7 @@ use Rattle.image.specs.NodeLayout.{node}
 use Rattle.rules.specs.PlacedStacks.{records_on, node_at, unplaced_node}
 use Rattle.rules.proofs.Folded.{folded}
 use Rattle.writers.proofs.Writing.{put-nothing}
+use Rattle.stack.specs.Stacks.{node_in}
 use Rattle.stack.specs.declared.stack.Stack.{Stack}
 use Rattle.change.specs.Sections.{between}
 use Rattle.merge.specs.Pile.{row}
@@ -47,7 +49,7 @@ none_kept false = refl
 
 module _ (s : Stack) {o : Option Folded} (g : ShowsIf s.img.now o (folded_in s)) where
   module _ {f : Folded} (e : o ≡ Some f) where
-    pub row-folds : FoldsTo s f
+    row-folds : FoldsTo s f
     row-folds = rw e at g
 
     there : (m : M.Node) × (folded_in s ≡ Some m) × Shows s.img.now f m
@@ -59,11 +61,11 @@ module _ (s : Stack) {o : Option Folded} (g : ShowsIf s.img.now o (folded_in s))
 
     module _ {d b : Bool} (k : Stays f.node d b) (i : ℕ) {old : List ℕ} (n : Written) where
       pub row_put : b ≡ true → {mid new : List ℕ} {q p : ℕ} → Put old n.end (inode.write i) q mid → Put mid q (bytes_if (folded_in s)) p new
-          → PutsRow old n i (kept_if d (folded_in s)) (record { end = p; count = n.count + 1 }) new
-      row_put z u v =
+          → {r : Written} → (r.end ≡ p) × (r.count ≡ n.count + 1) → PutsRow old n i (kept_if d (folded_in s)) r new
+      row_put z u v m =
           let a = there in
           let w : kept_if d (Some a.0) ≡ Some a.0 = k.says s.img.now a.0 (shows-like a.2) ∙ rw z in
-          rw (a.1, w) (record { puts = put-append u (rw a.1 at v); counts = refl })
+          rw (a.1, w) (record { puts = rw m.0 (put-append u (rw a.1 at v)); counts = m.1 })
 
       pub row-dropped : b ≡ false → length old < edge → Fits w64 n.end → PutsRow old n i (kept_if d (folded_in s)) n old
       row-dropped z h l =
@@ -73,11 +75,11 @@ module _ (s : Stack) {o : Option Folded} (g : ShowsIf s.img.now o (folded_in s))
 
 -- ---- a base node that no record is over
 
-pub no-records : (s : Stack) → s.places.count ≡ 0 → {p : ℕ} → s.places.base ≡ Some p → folded_in s ≡ unplaced_node (node_at s.img.now (Some p))
+pub no-records : (s : Stack) → s.places.count ≡ 0 → folded_in s ≡ unplaced_node (node_in s.img.now s.places)
 unfolding records_on folded
-no-records s z e = rw (z, e)
+no-records s z = rw z
 
-module _ (img : List ℕ) (p e : ℕ) (h : NodeEnds img (Some p) e) where
+module _ (img : List ℕ) (p e : ℕ) (h : NodeEnds img (Some p) (Some e)) where
   -- it is copied
   base-bytes : between img p e ≡ node.write h.0
   base-bytes =
@@ -95,10 +97,27 @@ module _ (img : List ℕ) (p e : ℕ) (h : NodeEnds img (Some p) e) where
   base-is : unplaced_node (node_at img (Some p)) ≡ Some h.0
   base-is = rw h.1
 
-  module _ {d b : Bool} (k : StaysAt img p d b) (i : ℕ) (o : Written) where
-    pub base-put : b ≡ true → {old mid new : List ℕ} {q r : ℕ} → Put old o.end (inode.write i) q mid → Put mid q (between img p e) r new
-        → PutsRow old o i (kept_if d (unplaced_node (node_at img (Some p)))) (record { end = r; count = o.count + 1 }) new
-    base-put z u v = rw (base-is, k.says h.0 (drop e img) h.1, z) (record { puts = put-append u (rw base-bytes at v); counts = refl })
+  base-row : {d b : Bool} → StaysAt img p d b → kept_if d (unplaced_node (node_at img (Some p))) ≡ cond b (Some h.0) None
+  base-row k = rw (base-is, k.says h.0 (drop e img) h.1)
+
+-- where it starts and where it ends
+zipped : (o e : Option ℕ) {p q : ℕ} → option_zip o e ≡ Some (p, q) → (o ≡ Some p) × (e ≡ Some q)
+zipped None e z = (cc, cc)
+zipped (Some a) None z = (cc, cc)
+zipped (Some a) (Some b) {p} {q} z = let x : ◌≡◌ {A = ℕ × ℕ} (a, b) (p, q) = cc in (ap (λ (x : ℕ × ℕ). Some x.0) x, ap (λ (x : ℕ × ℕ). Some x.1) x)
+
+module _ (img : List ℕ) (place end : Option ℕ) (h : NodeEnds img place end) (d : Bool) (i : ℕ) (o : Written) where
+  module _ {p e : ℕ} (z : option_zip place end ≡ Some (p, e)) where
+    here : NodeEnds img (Some p) (Some e)
+    here = let y = zipped place end z in rw (y.0, y.1) at h
+
+    module _ {b : Bool} (k : StaysAt img p d b) where
+      kept-is : kept_if d (unplaced_node (node_at img place)) ≡ cond b (Some here.0) None
+      kept-is = ap (λ (o : Option ℕ). kept_if d (unplaced_node (node_at img o))) (zipped place end z).0 ∙ base-row img p e here k
+
+      pub base-put : b ≡ true → {old mid new : List ℕ} {q r : ℕ} → Put old o.end (inode.write i) q mid → Put mid q (between img p e) r new
+          → {w : Written} → (w.end ≡ r) × (w.count ≡ o.count + 1) → PutsRow old o i (kept_if d (unplaced_node (node_at img place))) w new
+      base-put x u v m = rw (kept-is, x) (record { puts = rw m.0 (put-append u (rw (base-bytes img p e here) at v)); counts = m.1 })
 
 -- ---- the rows of a walk
 

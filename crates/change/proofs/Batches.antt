@@ -41,14 +41,26 @@ module _ {img : List ℕ} {at : ℕ} {o : Result (BatchHead × ℕ) Fault} (r : 
   pub batch-unread : {f : Fault} {u : Result (BatchHead × ℕ) Fault} → o ≡ Err f → u ≡ Err f → Reads img pass_batch at (meant head_meant u)
   batch-unread d e = rw e (read-stop _ (rw d at r))
 
-  module _ {h : BatchHead} {mid : ℕ} (d : o ≡ Ok (h, mid)) {w : Result (Option ℕ × ℕ) Fault} (found : Finds img H.Record 0 mid w) where
+  module _ {h : BatchHead} {mid : ℕ} (d : o ≡ Ok (h, mid)) {w : Result ℕ Fault} (p : Ends img records.read mid w) where
     pub batch-unpassed : {f : Fault} {u : Result (BatchHead × ℕ) Fault} → w ≡ Err f → u ≡ Err f → Reads img pass_batch at (meant head_meant u)
-    batch-unpassed c e = let g = rw c at found in rw e (read-then _ (rw d at r) (kept-stop (head_meant h) g.ends))
+    batch-unpassed c e = rw e (read-then _ (rw d at r) (kept-stop (head_meant h) (rw c at p)))
 
-    pub batch-passed : {place : Option ℕ} {next : ℕ} → w ≡ Ok (place, next) → Reads img pass_batch at (Ok (head_meant h, next))
-    batch-passed c = let g = rw c at found in read-then _ (rw d at r) (ends-kept (head_meant h) g.ends)
+    pub batch-passed : {next : ℕ} → w ≡ Ok next → Reads img pass_batch at (Ok (head_meant h, next))
+    batch-passed c = read-then _ (rw d at r) (ends-kept (head_meant h) (rw c at p))
 
 pub ruleset passes_batch = (batch-unread, batch-unpassed, batch-passed, handed)
+
+-- where the records of a layer end
+module _ {img : List ℕ} {at : ℕ} {o : Result (Option ℕ × ℕ) Fault} (f : Finds img H.Record 0 at o) where
+  pub list-ends : {place : Option ℕ} {q : ℕ} → o ≡ Ok (place, q) → Ends img records.read at (Ok q)
+  unfolding layer_record
+  list-ends d = let g = rw d at f in g.ends
+
+  pub list-endless : {y : Fault} {r : Result ℕ Fault} → o ≡ Err y → r ≡ Err y → Ends img records.read at r
+  unfolding layer_record
+  list-endless d e = let g = rw d at f in rw e (g.ends)
+
+pub ruleset list_ends = (list-ends, list-endless, handed)
 
 -- ---- what is written of batches
 

@@ -80,7 +80,10 @@ module _ {K A : Type 0} (O : Order K) (key : Codec K) (value : Codec A) where
       (l, record { passed = []; below = refl; own = refl; above = refl; before = nothing (omega (arith, s.ends, s.within)); behind = s; many = e; fit = f })
 
   abbrev no_row : ℕ → ℕ → ℕ → Cut
-  no_row n first here = record { count = n; first = first; row = here; after = here; place = None }
+  no_row n first here = record { rows = record { first = first; count = n }; gap = record { start = here; end = here }; place = None }
+
+  abbrev key_row : ℕ → ℕ → ℕ → ℕ → ℕ → Cut
+  key_row n first here next place = record { rows = record { first = first; count = n }; gap = record { start = here; end = next }; place = Some place }
 
   -- nothing of what is left is at or below the key
   ended : {img : List ℕ} {first n : ℕ} {i : K} {here left : ℕ} {l rest : List (K × A)} {to : ℕ} → n ≡ length l → Come img first i here left l to rest
@@ -184,7 +187,7 @@ module _ {K A : Type 0} (O : Order K) (key : Codec K) (value : Codec A) where
 
   module _ {img : List ℕ} {first n : ℕ} {i : K} {here left : ℕ} (w : Cutting img first n i here left) (some_left : 0 < left) where
     -- what there is at any row that stands here
-    at-row : {r : Cut} → r.first ≡ first → r.count ≡ n
+    at-row : {r : Cut} → r.rows.first ≡ first → r.rows.count ≡ n
         → ((l : List (K × A)) (to : ℕ) → n ≡ length l → (e : K × A) (m : List (K × A)) → Come img first i here left l to (e ∷ m)
         → CutIs O key value img i l to r)
         → Cuts O key value img first n i r
@@ -214,7 +217,7 @@ module _ {K A : Type 0} (O : Order K) (key : Codec K) (value : Codec A) where
           module _ {next : ℕ} (y : u ≡ Ok next) where
             -- it is the key's
             pub cut-found : is_eq order ≡ true
-                → Cuts O key value img first n i (record { count = n; first = first; row = here; after = next; place = Some place })
+                → Cuts O key value img first n i (key_row n first here next place)
             unfolding rows_below row_here rows_above rows_bytes
             cut-found h = at-row refl refl (λ l to e r m c.
                 let v : O.cmp i r.0 ≡ Equal = order-is c a d ∙ is_here order h in

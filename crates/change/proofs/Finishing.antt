@@ -1,7 +1,8 @@
 -- How a change ends: it was refused, or its new image was measured, and then had no room or was written.
 -- Assumes nothing.
-use Rattle.std.specs.Prelude.{None, Some, Result, Ok, Err}
+use Rattle.std.specs.Prelude.{None, Some, Result, Ok, Err, IsErr, IsErrAnd}
 use Rattle.std.specs.Result.{result_err}
+use Rattle.wire.proofs.Readers.{handed}
 use mathlib.Core.Path.{◌≡◌, refl, sym, ap, ◌∙◌}
 use mathlib.Core.Bool.{Bool, true, false, ◌||◌, ◌&&◌, cond}
 use mathlib.Core.List.{List}
@@ -29,7 +30,7 @@ use Rattle.rules.specs.ChangeCalls.{new_image, by_rules}
 use Rattle.rules.proofs.Asked.{over-fine, verdict-refused}
 use Rattle.change.specs.Changed.{Changes, if_fits, lacks_room}
 use Rattle.change.specs.Sections.{Stands}
-use Rattle.change.specs.declared.section.Sections.{Sections}
+use Rattle.survey.specs.declared.store.Sections.{Sections}
 
 pub not-false : ◌≡◌ {A = Bool} true false → ⊥
 not-false e = let z : ◌≡◌ {A = ℕ} 0 1 = cc in omega arith
@@ -39,10 +40,11 @@ refused-same e = record { answers = rw e; leaves = rw e }
 
 -- ---- 1 and 2
 
+-- what `?` hands on of an image that may not be used
 pub changes-unopened : (c : Call) {A : Type 0} (img : List ℕ) {old : List ℕ} {o : Result A Refusal} {e : Refusal} {r : Result ℕ Refusal}
-    → result_err o ≡ verdict_of img → o ≡ Err e → r ≡ Err e → Changes (by_rules usual c img (length old)) old r old
+    → result_err o ≡ verdict_of img → o ≡ Err e → IsErr r × IsErrAnd r (λ y. y ≡ e) → Changes (by_rules usual c img (length old)) old r old
 unfolding new_image
-changes-unopened c img {e = e} v d z = rw z (refused-same (verdict-refused _ img e (sym v ∙ ap result_err d)))
+changes-unopened c img {e = e} v d z = rw (handed z) (refused-same (verdict-refused _ img e (sym v ∙ ap result_err d)))
 
 -- ---- room
 

@@ -28,7 +28,7 @@ use Rattle.wire.proofs.Readers.{handed}
 use Rattle.rules.proofs.Asked.{verdict-fine}
 use Rattle.writers.specs.Tails.{tail}
 use Rattle.change.specs.Sections.{between, Spans, tail_of, Stands, Opens, OpensInode}
-use Rattle.change.specs.declared.section.Sections.{Sections}
+use Rattle.survey.specs.declared.store.Sections.{Sections}
 use Rattle.stack.specs.declared.stack.Stack.{Stack}
 use Rattle.stack.proofs.Opening.{opens-stack}
 
@@ -161,13 +161,13 @@ module _ {img : List ℕ} {i : ℕ} {r : Survey} {s : Store} (w : Surveys img i 
   fits : FitsStore s
   fits = read_fits img s e
 
-  pub survey-stands : Stands img (record { batches = r.batches; live = r.live; tail = r.tail }) s
+  pub survey-stands : Stands img r.sections s
   unfolding node layer_record batches
   survey-stands =
       let b = past-at base {a = s.base} 0 (omega arith) fits.base (sym (read-then-write img s e) ∙ store_bytes s) w.base in
-      let q = past-at batches {a = s.batches} r.batches b.spans.within fits.batches b.rest w.batches in
-      let l = past-at records {a = s.live} r.live q.spans.within fits.live q.rest w.live in
-      record { short = short; is = e; base = b.spans; batches = q.spans; live = l.spans; tail = span_last img r.tail l.spans.within l.rest }
+      let q = past-at batches {a = s.batches} r.sections.batches b.spans.within fits.batches b.rest w.batches in
+      let l = past-at records {a = s.live} r.sections.live q.spans.within fits.live q.rest w.live in
+      record { short = short; is = e; base = b.spans; batches = q.spans; live = l.spans; tail = span_last img r.sections.tail l.spans.within l.rest }
 
 pub stands-fits : {img : List ℕ} {p : Sections} {s : Store} → Stands img p s → FitsStore s
 stands-fits {img} {s = s} w = read_fits img s w.is
@@ -176,7 +176,7 @@ stands-fits {img} {s = s} w = read_fits img s w.is
 
 module _ {img : List ℕ} {i : ℕ} {o : Result Survey Refusal} (j : Judges img i o) where
   pub inode-opened : {r : Survey} → o ≡ Ok r → (k : Stack) → k.img.now ≡ img → k.places ≡ r.stack
-      → OpensInode img i (Ok (record { batches = r.batches; live = r.live; tail = r.tail }, k))
+      → OpensInode img i (Ok (r.sections, k))
   inode-opened d k a b =
       let g = rw d at j in
       let s = verdict-fine img (sym g.verdict) in

@@ -58,28 +58,28 @@ module _ {K A : Type 0} (O : Order K) (key : Codec K) (value : Codec A) where
 -- ---- pieces by cuts
 
 abbrev pub piece_at : Cut → List ℕ → Piece
-piece_at c bytes = record { row = c.row; after = c.after; bytes = bytes }
+piece_at c bytes = record { row = c.gap.start; after = c.gap.end; bytes = bytes }
 
 -- the second cut of a list, from the first on, where n rows are left
 abbrev pub behind : Cut → Cut → ℕ → Cut
-behind a b n = record { count = n; first = a.after; row = b.row; after = b.after; place = b.place }
+behind a b n = record { rows = record { first = a.gap.end; count = n }; gap = b.gap; place = b.place }
 
 module _ {K A : Type 0} (O : Order K) (key : Codec K) (value : Codec A) {img : List ℕ} {l : List (K × A)} {mid : ℕ} where
   -- the last change: behind it the rows go on as they are, and then t
   pub piece-last : {t : List ℕ} {to : ℕ} {k : K} (o : Option A) {cut : Cut} (bytes : List ℕ) → CutIs O key value img k l mid cut → Spans img mid t to
-      → bytes ≡ rows_bytes key value (row_if O k o) → Pieces O key value img cut.first l t to (piece_at cut bytes ∷ []) ((k, o) ∷ [])
+      → bytes ≡ rows_bytes key value (row_if O k o) → Pieces O key value img cut.rows.first l t to (piece_at cut bytes ∷ []) ((k, o) ∷ [])
   unfolding Pieces
   piece-last o bytes c e b = (c.below, (b, span-both c.above e))
 
   -- a change with others behind it
   pub piece-more : (t : List ℕ) (to : ℕ) {k : K} (o : Option A) {cut : Cut} (bytes : List ℕ) (ps : List Piece) (es : List (K × Option A))
-      → CutIs O key value img k l mid cut → bytes ≡ rows_bytes key value (row_if O k o) → Pieces O key value img cut.after (rows_above O k l) t to ps es
-      → Pieces O key value img cut.first l t to (piece_at cut bytes ∷ ps) ((k, o) ∷ es)
+      → CutIs O key value img k l mid cut → bytes ≡ rows_bytes key value (row_if O k o) → Pieces O key value img cut.gap.end (rows_above O k l) t to ps es
+      → Pieces O key value img cut.rows.first l t to (piece_at cut bytes ∷ ps) ((k, o) ∷ es)
   unfolding Pieces
   piece-more t to o bytes ps es c b h = (c.below, (b, h))
 
   -- a list cut at two keys, the second above the first, is cut at the second behind the first
-  pub cut_again : {j k : K} {a b : Cut} → Rising O l → O.cmp j k ≡ Less → a.first ≡ b.first → CutIs O key value img j l mid a
+  pub cut_again : {j k : K} {a b : Cut} → Rising O l → O.cmp j k ≡ Less → a.rows.first ≡ b.rows.first → CutIs O key value img j l mid a
       → CutIs O key value img k l mid b
       → CutIs O key value img k (rows_above O j l) mid (behind a b (length (rows_above O j l)))
   cut_again {j} {k} {a} {b} r lt e c d =
@@ -91,7 +91,7 @@ module _ {K A : Type 0} (O : Order K) (key : Codec K) (value : Codec A) {img : L
       ∙ ap (λ (t : List ℕ). x ++ t) (rows_append O key value (row_here O j l) (rows_below O k (rows_above O j l)))
       ∙ sym (append_assoc x y (rows_bytes key value (rows_below O k (rows_above O j l)))) in
       let v = span-back (x ++ y) (rows_bytes key value (rows_below O k (rows_above O j l))) (rw w at d.below) in
-      let n : b.first + length (x ++ y) ≡ a.after = omega (arith, e, c.below.ends, c.here.ends, length-append x y) in
+      let n : b.rows.first + length (x ++ y) ≡ a.gap.end = omega (arith, e, c.below.ends, c.here.ends, length-append x y) in
       record {
         count = refl;
         below = rw n at v;

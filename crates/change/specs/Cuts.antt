@@ -63,22 +63,22 @@ module _ {K A : Type 0} (O : Order K) (key : Codec K) (value : Codec A) (img : L
 
   -- rows that end at `to`, cut at a key
   pub record CutIs (k : K) (l : List (K × A)) (to : ℕ) (r : Cut) : Type 0 where
-    pub count : r.count ≡ length l
-    pub below : Spans img r.first (rows_bytes key value (rows_below O k l)) r.row
-    pub here : Spans img r.row (rows_bytes key value (row_here O k l)) r.after
-    pub above : Spans img r.after (rows_bytes key value (rows_above O k l)) to
+    pub count : r.rows.count ≡ length l
+    pub below : Spans img r.rows.first (rows_bytes key value (rows_below O k l)) r.gap.start
+    pub here : Spans img r.gap.start (rows_bytes key value (row_here O k l)) r.gap.end
+    pub above : Spans img r.gap.end (rows_bytes key value (rows_above O k l)) to
     pub holds : Holds img value.read r.place (under_first (row_here O k l))
-    pub stands : StandsAt r.place (row_here O k l) r.after
+    pub stands : StandsAt r.place (row_here O k l) r.gap.end
 
   -- n rows from `first` on, if they stand there
   pub record Cuts (first n : ℕ) (k : K) (r : Cut) : Type 0 where
-    pub from : r.first ≡ first
-    pub counts : r.count ≡ n
+    pub from : r.rows.first ≡ first
+    pub counts : r.rows.count ≡ n
     pub cut : (l : List (K × A)) (to : ℕ) → n ≡ length l → Every (FitsRow O key value) l → Spans img first (rows_bytes key value l) to → CutIs k l to r
 
   -- a list, its count first, if it stands there
   pub record CutsList (at : ℕ) (k : K) (r : Cut) : Type 0 where
-    pub few : r.count ≤ last_count
+    pub few : r.rows.count ≤ last_count
     pub cut : (m : Map O A) (to : ℕ) → (listed O key value).Fits m → Spans img at ((listed O key value).write m) to → CutIs k m.rows to r
 
 -- the records of a layer

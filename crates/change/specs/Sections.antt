@@ -11,7 +11,7 @@ use Rattle.image.specs.RoundTrip.{read_image}
 use Rattle.survey.specs.Verdict.{verdict_of}
 use Rattle.survey.specs.declared.refusal.Refusal.{Refusal}
 use Rattle.writers.specs.Tails.{TailParts, tail}
-use Rattle.change.specs.declared.section.Sections.{Sections}
+use Rattle.survey.specs.declared.store.Sections.{Sections}
 use Rattle.stack.specs.InStack.{StackOf}
 use Rattle.stack.specs.declared.stack.Stack.{Stack}
 

@@ -9,9 +9,5 @@ use wire::put::put_part;
 pub fn put_between(buf: &mut [u8], at: usize, img: &[u8], start: usize, end: usize) -> usize
     ensures { Put buf.old at (between img.now start end) result buf.new }
 {
-    if end <= start {
-        return at;
-    }
-    let length = end - start;
-    put_part(buf, at, img, Part { start, length })
+    put_part(buf, at, img, Part::between(start, end))
 }

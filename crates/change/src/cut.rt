@@ -11,22 +11,48 @@ ghost use Rattle.image.specs.RecordLayout.{layer_record};
 ghost use Rattle.image.specs.Places.{Ends};
 ghost use Rattle.change.specs.Cuts.{compared, Cuts, CutsList, count_after};
 
-use image::field::LAST_WORD;
+use image::field::{Inode, LAST_WORD};
 use image::rows::{Rows, rows_at};
+use nodes::field::ReadField;
 use passes::record::pass_record;
 use std::cmp::Ordering;
 use wire::fault::Fault;
-use wire::number::read_number;
 
-// `count` rows from `first` on. That of the key is from `row` to `after`, what stands under it at `place`; if it has none, there is nothing
-// between, and what follows is from `after` on all the same.
+// Bytes that give way to others, or go: two places and no `Part`, as `put_between` takes them.
+#[derive(Clone, Copy)]
+pub struct Gap {
+    pub start: usize,
+    pub end: usize,
+}
+
+// The rows of a list, cut at a key. The gap is the key's row, and what stands under it is at `place`; if it has none, the gap is empty. What
+// follows is from the gap's end on.
 #[derive(Clone, Copy)]
 pub struct Cut {
-    pub count: u64,
-    pub first: usize,
-    pub row: usize,
-    pub after: usize,
+    pub rows: Rows,
+    pub gap: Gap,
     pub place: Option<usize>,
+}
+
+impl Cut {
+    // The cut of a list that isn't there.
+    pub const NOWHERE: Cut = Cut {
+        rows: Rows { first: 0, count: 0 },
+        gap: Gap { start: 0, end: 0 },
+        place: None,
+    };
+
+    // How many rows there are afterwards, where the key has one (`there`) or none. A clause, and no fact of `Cut`, as in `replaced` (overlay).
+    pub fn count_after(self, there: bool) -> u64
+        requires { self.rows.count < edge }
+        ensures { result ≡ count_after self.rows.count self.place there }
+    {
+        match (self.place, there) {
+            (Some(_), false) => self.rows.count.saturating_sub(1),
+            (None, true) => self.rows.count + 1,
+            _ => self.rows.count,
+        }
+    }
 }
 
 // A row that is looked for in a rising list, by its key.
@@ -49,7 +75,7 @@ pub trait Sought {
     fn compare(&self, img: &[u8], at: usize) -> Result<(Ordering, usize), Fault>
         ensures { Reads img.now (compared order key (wanted self.now)) at result };
 
-    // Passes what stands under a key.
+    // Passes what stands under a key. The place is in the image, as in `pass_under` (image).
     fn pass(&self, img: &[u8], at: usize) -> Result<usize, Fault>
         requires { at ≤ length img.now }
         ensures { Ends img.now (value self.now).read at result };
@@ -75,7 +101,7 @@ impl Sought for RecordOf {
     ghost wanted = { λ s. s.ino };
 
     fn compare(&self, img: &[u8], at: usize) -> Result<(Ordering, usize), Fault> {
-        let (inode, next) = read_number(img, at, u64::MAX)?;
+        let (inode, next) = Inode::read(img, at)?;
         Ok((inode.cmp(&self.ino), next))
     }
 
@@ -101,8 +127,7 @@ fn cut_rows<S: Sought>(img: &[u8], rows: Rows, sought: &S) -> Cut
         let Ok((order, place)) = sought.compare(img, row) else {
             break;
         };
-        let beyond = order.is_gt();
-        if beyond {
+        if order.is_gt() {
             break;
         }
         let Ok(after) = sought.pass(img, place) else {
@@ -110,33 +135,22 @@ fn cut_rows<S: Sought>(img: &[u8], rows: Rows, sought: &S) -> Cut
         };
         if order.is_eq() {
             return Cut {
-                count: rows.count,
-                first: rows.first,
-                row,
-                after,
+                rows,
+                gap: Gap {
+                    start: row,
+                    end: after,
+                },
                 place: Some(place),
             };
         }
         row = after;
     }
     Cut {
-        count: rows.count,
-        first: rows.first,
-        row,
-        after: row,
+        rows,
+        gap: Gap {
+            start: row,
+            end: row,
+        },
         place: None,
-    }
-}
-
-// How many rows there are of `count`, once the key has one or none.
-pub fn count_after(count: u64, place: Option<usize>, there: bool) -> u64
-    requires { count < edge }
-    ensures { result ≡ count_after count place there }
-{
-    match place {
-        Some(_) if there => count,
-        Some(_) => count.saturating_sub(1),
-        None if there => count + 1,
-        None => count,
     }
 }

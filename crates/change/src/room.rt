@@ -3,15 +3,13 @@ ghost use Rattle.std.specs.Prelude.{◌≡◌};
 ghost use Rattle.change.specs.Changed.{lacks_room, Writes};
 
 use survey::refusal::Refusal;
+use survey::store::MOST_BYTES;
 
 // Whether a new image of `size` bytes is too long, for any image or for a target of `room` bytes.
 pub fn lacks_room(size: usize, room: usize) -> bool
     ensures { result ≡ lacks_room size room }
 {
-    if 65536 < size {
-        return true;
-    }
-    room < size
+    MOST_BYTES < size || room < size
 }
 
 // Measures the new image that is put, and writes it to the target if there is room.

@@ -1,17 +1,9 @@
-// Where the sections of an image stand that may be used.
+// Where the sections of an image stand, once it is found usable.
 ghost use Rattle.change.specs.Sections.{Opens, OpensInode};
 
 use stack::stack::Stack;
 use survey::refusal::Refusal;
-use survey::store::read_image;
-
-// The base is from 0 to `batches`, and what follows live is from `tail` to the end.
-#[derive(Clone, Copy)]
-pub struct Sections {
-    pub batches: usize,
-    pub live: usize,
-    pub tail: usize,
-}
+use survey::store::{Sections, read_image};
 
 // The one pass over the image that every call starts with: the sections, and the stack of one inode.
 #[tactic(auto, using(crate::proofs::Sections::opens))]
@@ -19,13 +11,8 @@ pub fn open_inode(img: &[u8], ino: u64) -> Result<(Sections, Stack), Refusal>
     ensures { OpensInode img.now ino result }
 {
     let survey = read_image(img, ino)?;
-    let sections = Sections {
-        batches: survey.batches,
-        live: survey.live,
-        tail: survey.tail,
-    };
     let places = survey.stack;
-    Ok((sections, Stack { img, places }))
+    Ok((survey.sections, Stack { img, places }))
 }
 
 // For a call that needs no stack.

@@ -9,14 +9,13 @@ use lib.ListN.{length, length-append, length-drop}
 use Rattle.wire.specs.declared.fault.Fault.{Fault}
 use Rattle.wire.specs.declared.part.Part.{Part}
 use Rattle.wire.specs.Parse.{Parsed, got, bind, bind-bind}
-use Rattle.wire.specs.Number.{number_small}
 use Rattle.wire.specs.Reading.{Reads, meant}
 use Rattle.wire.proofs.Readers.{read-then, read-stop, read-end}
 use Rattle.image.specs.declared.kind.FileType.{FileType}
 use Rattle.image.specs.Meaning.{Kind, Record, delta}
 use Rattle.image.specs.FileTypes.{kind_meant, code_meant}
 use Rattle.image.specs.RecordLayout.{fields, ChangePart, change_of, change_part, code_part, record_at, layer_record}
-use Rattle.image.specs.KindLayout.{code, code_number, code-small}
+use Rattle.image.specs.KindLayout.{code}
 use Rattle.nodes.specs.Fields.{holds_if, ReadsAs}
 use Rattle.nodes.specs.Options.{Inside, InsideIf}
 use Rattle.nodes.specs.Attrs.{fields_meant, ReadsAttr}
@@ -27,6 +26,7 @@ use Rattle.deltas.specs.declared.delta.EntryDelta.{EntryDelta}
 use Rattle.deltas.specs.declared.delta.EntryDelta.TheVariants as E
 use Rattle.nodes.proofs.Values.{reads_made, reads_first, reads_same}
 use Rattle.nodes.proofs.Reading.{reads-length}
+use Rattle.image.proofs.Numbered.{code-length}
 use Rattle.image.proofs.OneForm.{code-one, fields-one}
 
 -- what a delta changes, where that is one field
@@ -56,11 +56,6 @@ parts_read s = bind (code.read s) (λ c r. bind ((code_part c).read r) (λ p t. 
 record-read : (s : List ℕ) → parts_read s ≡ layer_record.read s
 unfolding layer_record
 record-read s = simp bind-bind
-
--- a code is one byte
-code-length : (c : Option Kind) → length (code.write c) ≡ 1
-unfolding code
-code-length c = rw (number_small (code_number c) (omega (arith, code-small c)))
 
 code-byte : {img : List ℕ} {at : ℕ} {c : Option Kind} {next : ℕ} → Reads img code.read at (Ok (c, next)) → next ≡ at + 1
 code-byte {c = c} h = omega (arith, code-length c, simp (length-drop, length-append) at (ap length (code-one.forth _ _ _ h.same).0), h.within)

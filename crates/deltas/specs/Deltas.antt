@@ -3,7 +3,8 @@ use Rattle.std.specs.Prelude.{◌≡◌, List, ℕ, ◌+◌, length, Result, IfO
 use Rattle.wire.specs.declared.fault.Fault.{Fault}
 use Rattle.wire.specs.Parse.{Parsed, got, bind}
 use Rattle.wire.specs.Reading.{Reads, meant}
-use Rattle.image.specs.Meaning.{Kind, Fields, Change, Delta, Record, directory, file, symlink, special, pipe, character, block, socket, tombstone, delta}
+use Rattle.image.specs.Meaning.{Kind, Special, Fields, Change, Delta, Record, tombstone, delta}
+use Rattle.image.specs.Meaning.{directory, file, symlink, special, pipe, character, block, socket}
 use Rattle.image.specs.RecordLayout.{fields, change_part, change_of, layer_record}
 use Rattle.image.specs.declared.name.Under.TheVariants as U
 use Rattle.nodes.specs.Options.{text_of, InsideIf}
@@ -12,6 +13,7 @@ use Rattle.nodes.specs.Attrs.{fields_meant}
 use Rattle.nodes.specs.declared.attr.AttrDelta.{AttrDelta}
 use Rattle.deltas.specs.declared.delta.NodeDelta.{NodeDelta}
 use Rattle.deltas.specs.declared.delta.NodeDelta.TheVariants.{Directory, File, Symlink, Fifo, CharDevice, BlockDevice, Socket}
+use Rattle.deltas.specs.declared.delta.SpecialDelta.{SpecialDelta}
 use Rattle.deltas.specs.declared.delta.EntryDelta.{EntryDelta}
 use Rattle.deltas.specs.declared.delta.EntryDelta.TheVariants as E
 
@@ -36,6 +38,17 @@ change_meant img (Socket d) = special socket d.rdev
 
 abbrev pub delta_meant : List ℕ → NodeDelta → Delta
 delta_meant img n = record { fields = fields_meant img (attr_of n); change = change_meant img n }
+
+-- the delta of this kind that has only a device number
+abbrev pub special_delta : Special → SpecialDelta → NodeDelta
+special_delta pipe d = Fifo d
+special_delta character d = CharDevice d
+special_delta block d = BlockDevice d
+special_delta socket d = Socket d
+
+-- each that is made is of this kind
+abbrev pub Makes : Special → (SpecialDelta → NodeDelta → Type 0) → Type 0
+Makes s Made = (d : SpecialDelta) (n : NodeDelta) → Made d n → n ≡ special_delta s d
 
 -- "A record is a tombstone or a node delta of one of seven kinds."
 abbrev pub entry_meant : List ℕ → EntryDelta → Record

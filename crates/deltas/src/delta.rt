@@ -1,8 +1,8 @@
 // The record of a layer, from its code on.
 ghost use Rattle.std.specs.Prelude.{◌≡◌, List, ℕ};
-ghost use Rattle.image.specs.Meaning.{directory, changed_kind};
+ghost use Rattle.image.specs.Meaning.{Special, directory, special, changed_kind};
 ghost use Rattle.image.specs.FileTypes.{kind_meant};
-ghost use Rattle.deltas.specs.Deltas.{attr_of, change_meant, ReadsDelta, ReadsEntry};
+ghost use Rattle.deltas.specs.Deltas.{attr_of, change_meant, Makes, ReadsDelta, ReadsEntry};
 
 use image::field::{Inode, Size, Target, Word};
 use image::kind::{FileType, read_code};
@@ -52,6 +52,7 @@ pub enum NodeDelta {
     Socket(SpecialDelta),
 }
 
+// No `Option<NodeDelta>`: the project fixes this enum (document 01).
 #[derive(Clone, Copy)]
 pub enum EntryDelta {
     Node(NodeDelta),
@@ -73,20 +74,20 @@ impl NodeDelta {
             NodeDelta::Socket(_) => FileType::Socket,
         }
     }
-}
 
-// The attribute changes of a delta, whatever its kind.
-pub fn attr_delta(delta: NodeDelta) -> AttrDelta
-    ensures { result ≡ attr_of delta }
-{
-    match delta {
-        NodeDelta::Directory(directory) => directory.attr_delta,
-        NodeDelta::File(file) => file.attr_delta,
-        NodeDelta::Symlink(symlink) => symlink.attr_delta,
-        NodeDelta::Fifo(special) => special.attr_delta,
-        NodeDelta::CharDevice(special) => special.attr_delta,
-        NodeDelta::BlockDevice(special) => special.attr_delta,
-        NodeDelta::Socket(special) => special.attr_delta,
+    // The attribute changes of a delta, whatever its kind.
+    pub fn attr_delta(self) -> AttrDelta
+        ensures { result ≡ attr_of self }
+    {
+        match self {
+            NodeDelta::Directory(directory) => directory.attr_delta,
+            NodeDelta::File(file) => file.attr_delta,
+            NodeDelta::Symlink(symlink) => symlink.attr_delta,
+            NodeDelta::Fifo(special)
+            | NodeDelta::CharDevice(special)
+            | NodeDelta::BlockDevice(special)
+            | NodeDelta::Socket(special) => special.attr_delta,
+        }
     }
 }
 
@@ -103,7 +104,7 @@ pub fn read_entry_delta(img: &[u8], at: usize) -> Result<(EntryDelta, usize), Fa
     Ok((EntryDelta::Node(delta), next))
 }
 
-// What a delta of this kind changes, after its attributes.
+// Reads a delta of this kind, whose attributes are read already.
 fn read_node_delta(
     img: &[u8],
     at: usize,
@@ -123,26 +124,25 @@ fn read_node_delta(
             let delta = SymlinkDelta { target, attr_delta };
             Ok((NodeDelta::Symlink(delta), next))
         }
-        FileType::NamedPipe => {
-            let (rdev, next) = Word::read(img, at)?;
-            Ok((NodeDelta::Fifo(SpecialDelta { rdev, attr_delta }), next))
-        }
-        FileType::CharDevice => {
-            let (rdev, next) = Word::read(img, at)?;
-            let delta = SpecialDelta { rdev, attr_delta };
-            Ok((NodeDelta::CharDevice(delta), next))
-        }
-        FileType::BlockDevice => {
-            let (rdev, next) = Word::read(img, at)?;
-            let delta = SpecialDelta { rdev, attr_delta };
-            Ok((NodeDelta::BlockDevice(delta), next))
-        }
-        FileType::Socket => {
-            let (rdev, next) = Word::read(img, at)?;
-            let delta = SpecialDelta { rdev, attr_delta };
-            Ok((NodeDelta::Socket(delta), next))
-        }
+        FileType::NamedPipe => read_special(img, at, attr_delta, NodeDelta::Fifo),
+        FileType::CharDevice => read_special(img, at, attr_delta, NodeDelta::CharDevice),
+        FileType::BlockDevice => read_special(img, at, attr_delta, NodeDelta::BlockDevice),
+        FileType::Socket => read_special(img, at, attr_delta, NodeDelta::Socket),
     }
+}
+
+// Reads a device number; `make` makes a delta of one of the special kinds of it.
+fn read_special<M: FnOnce(SpecialDelta) -> NodeDelta>(
+    img: &[u8],
+    at: usize,
+    attr_delta: AttrDelta,
+    make: M,
+) -> Result<(NodeDelta, usize), Fault>
+    requires { M.IsAlwaysCallable make }
+    ensures { (s : Special) → Makes s (M.post make) → ReadsDelta img.now (special s) attr_delta at result }
+{
+    let (rdev, next) = Word::read(img, at)?;
+    Ok((make(SpecialDelta { rdev, attr_delta }), next))
 }
 
 fn read_directory_delta(

@@ -1,4 +1,4 @@
-// Records by value, with the Rust's names, read at a place.
+// The records of a layer as values, read at a place of the image.
 #![tactic(auto)]
 
 pub mod delta;

@@ -21,7 +21,6 @@ use Rattle.image.specs.RecordLayout.{changes, names, layer_record}
 use Rattle.image.specs.RoundTrip.{write_image}
 use Rattle.nodes.specs.Listed.{list_of, ListedIf}
 use Rattle.nodes.specs.Attrs.{fields_meant}
-use Rattle.nodes.specs.declared.attr.AttrDelta.{AttrDelta}
 use Rattle.writers.specs.Writes.{attr_bytes, fields-bytes}
 use Rattle.records.proofs.Records.{list-bytes}
 use Rattle.rules.specs.Initial.{usual}
@@ -34,19 +33,18 @@ use Rattle.rules.specs.ChangeCalls.{by_rules, update_dir_parent}
 use Rattle.change.specs.Changed.{Changes, if_fits}
 use Rattle.change.specs.Sections.{Stands}
 use Rattle.change.specs.Cuts.{CutsRecords}
-use Rattle.overlay.specs.NewLists.{kept_of, list_bytes}
+use Rattle.overlay.specs.NewLists.{list_bytes}
 use Rattle.overlay.specs.NewRecords.{directory_bytes, one_image, replaced_of, unchanged_of}
 use Rattle.overlay.specs.Directories.{list_or, IsDirectory, IsOther, Lives, LivesAt}
 use Rattle.overlay.specs.Altered.{Alters}
-use Rattle.directory.specs.Entries.{RowChanged, stamped_of, named_change, SetsName, Naming}
+use Rattle.directory.specs.Entries.{parent_of, Renamed, GivesWay, OnDirectory, named_change, SetsName, Naming}
 use Rattle.survey.specs.declared.refusal.Refusal.{Refusal}
 use Rattle.survey.specs.declared.refusal.Refusal.TheVariants.{BadName, BadArgument}
-use Rattle.change.specs.declared.section.Sections.{Sections}
+use Rattle.survey.specs.declared.store.Sections.{Sections}
 use Rattle.change.specs.declared.cut.Cut.{Cut}
 use Rattle.overlay.specs.declared.delta.LiveDelta.{LiveDelta}
 use Rattle.overlay.specs.declared.list.NewRow.{NewRow}
 use Rattle.overlay.specs.declared.list.NewRow.TheVariants as R
-use Rattle.overlay.specs.declared.list.NewList.{NewList}
 use Rattle.overlay.specs.declared.record.NewDirectory.{NewDirectory}
 use Rattle.overlay.specs.declared.record.NewRecord.TheVariants as N
 use Rattle.overlay.specs.declared.write.NewLive.{NewLive}
@@ -81,7 +79,7 @@ module _ {img : List ℕ} {p : Sections} {i : ℕ} {cut : Cut} (c : CutsRecords 
     lives = h.lives _ (rw (get-here by_number i s.live) (is_cut w c).holds)
 
   -- "on a live record of another sort they do nothing"
-  pub stays_same : live ≡ None → {given newName : List ℕ} (D : DirectoryChange) {n : NewLive} → n ≡ unchanged_of cut i
+  stays_same : live ≡ None → {given newName : List ℕ} (D : DirectoryChange) {n : NewLive} → n ≡ unchanged_of cut i
       → Alters img given newName p i (on_directory D) n
   stays_same e {given} {newName} D {n} q = record {
     writes = λ s w.
@@ -107,32 +105,46 @@ module _ {img : List ℕ} {p : Sections} {i : ℕ} {cut : Cut} (c : CutsRecords 
     }
 
     -- "set parent"
-    pub parent-set : {a b : NewList} {new : NewLive} (q : ℕ) → a ≡ kept_of d.added → b ≡ kept_of d.removed
-        → new ≡ replaced_of cut i (N.Directory (record { attr_delta = d.attr_delta; parent = Some q; added = a; removed = b }))
+    parent-set : {n : NewDirectory} {new : NewLive} (q : ℕ) → n ≡ parent_of d q → new ≡ replaced_of cut i (N.Directory n)
         → Alters img img img p i (on_directory (setting_parent q)) new
-    parent-set {a} {b} q ea eb z =
-        directory-set img img (setting_parent q) (record { attr_delta = d.attr_delta; parent = Some q; added = a; removed = b }) z
+    parent-set {n} q en z =
+        directory-set img img (setting_parent q) n z
         (λ s w v.
-        directory-bytes img img img (record { attr_delta = d.attr_delta; parent = Some q; added = a; removed = b })
-        (list_or img U.Inode d.added) (list_or img U.Nothing d.removed) v.attributes
-        (ap (list_bytes img img img) ea ∙ kept-bytes img img img U.Inode d.added v.added.0 v.added.1)
-        (ap (list_bytes img img img) eb ∙ kept-bytes img img img U.Nothing d.removed v.removed.0 v.removed.1))
+        rw en
+        (directory-bytes img img img (parent_of d q) (list_or img U.Inode d.added) (list_or img U.Nothing d.removed) v.attributes
+        (kept-bytes img img img U.Inode d.added v.added.0 v.added.1)
+        (kept-bytes img img img U.Nothing d.removed v.removed.0 v.removed.1)))
 
     -- "Adding takes the name out of removed, and the reverse; both set mtime and ctime to the given time."
-    pub name_set : {name : Text} {t : Time} {added removed : NewRow} {x y : NewList} {at : AttrDelta} {new : NewLive} → at ≡ stamped_of d.attr_delta t
-        → RowChanged img U.Inode d.added name added x → RowChanged img U.Nothing d.removed name removed y
-        → new ≡ replaced_of cut i (N.Directory (record { attr_delta = at; parent = d.parent; added = x; removed = y }))
-        → SetsName img p i name t added removed new
-    name_set {name} {t} {added} {removed} {x} {y} {at} et rx ry z = record {
+    name_set : {name : Text} {t : Time} {added removed : NewRow} {n : NewDirectory} {new : NewLive} → Renamed img d name t added removed n
+        → new ≡ replaced_of cut i (N.Directory n) → SetsName img p i name t added removed new
+    name_set {name} {t} {added} {removed} {n} m z = record {
       alters = λ a oa b ob.
-          directory-set name name (named_change name t a b) (record { attr_delta = at; parent = d.parent; added = x; removed = y }) z
+          directory-set name name (named_change name t a b) n z
           (λ s w v.
-          rw et
-          (directory-bytes img name name (record { attr_delta = stamped_of d.attr_delta t; parent = d.parent; added = x; removed = y })
-          (put by_bytes name a (list_or img U.Inode d.added)) (put by_bytes name b (list_or img U.Nothing d.removed)) v.attributes
-          (rx.writes w.short v.added.0 v.added.1 name name (own_name name added) a oa)
-          (ry.writes w.short v.removed.0 v.removed.1 name name (own_name name removed) b ob)));
+          directory-bytes img name name n
+          (put by_bytes name a (list_or img U.Inode d.added)) (put by_bytes name b (list_or img U.Nothing d.removed)) (rw m.stamps v.attributes)
+          (m.adds.writes w.short v.added.0 v.added.1 name name (own_name name added) a oa)
+          (m.removes.writes w.short v.removed.0 v.removed.1 name name (own_name name removed) b ob)
+          ∙ rw (m.stamps, m.parent) refl);
     }
+
+module _ {Made : LiveDelta → NewDirectory → Type 0} {img : List ℕ} {p : Sections} {i : ℕ} {new : NewLive} (o : OnDirectory Made img p i new) where
+  pub on-parent : (q : ℕ) → ((d : LiveDelta) (n : NewDirectory) → Made d n → n ≡ parent_of d q)
+      → Alters img img img p i (on_directory (setting_parent q)) new
+  on-parent q made = go o.live refl o.gives
+    where
+      go : (l : Option LiveDelta) → o.live ≡ l → GivesWay Made o.cut i l new → Alters img img img p i (on_directory (setting_parent q)) new
+      go (Some d) e g = parent-set o.cuts o.lives e q (made d g.0 g.1) g.2
+      go None e g = stays_same o.cuts o.lives e (setting_parent q) g
+
+  pub on-name : {name : Text} {t : Time} {added removed : NewRow} → ((d : LiveDelta) (n : NewDirectory) → Made d n → Renamed img d name t added removed n)
+      → SetsName img p i name t added removed new
+  on-name {name} {t} {added} {removed} made = go o.live refl o.gives
+    where
+      go : (l : Option LiveDelta) → o.live ≡ l → GivesWay Made o.cut i l new → SetsName img p i name t added removed new
+      go (Some d) e g = name_set o.cuts o.lives e (made d g.0 g.1) g.2
+      go None e g = record { alters = λ a oa b ob. stays_same o.cuts o.lives e (named_change name t a b) g }
 
 -- ---- the calls
 

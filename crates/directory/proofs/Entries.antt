@@ -104,11 +104,11 @@ module _ (u : Sort) {img : List ℕ} {to : ℕ} (m : Map by_bytes (UnderName u))
       → changed_bytes img given newName (changed_rows cut to new) ≡ (by_name u).write (put by_bytes k o m)
   unfolding over edit_rows
   one-changed {k} {cut} new c given newName e o h =
-      let n = number_bytes (count_after cut.count cut.place (has_row new)) in
+      let n = number_bytes (count_after cut.rows.count cut.place (has_row new)) in
       let x = row_bytes given newName new in
-      let counts = ap (count_after cut.count cut.place) (row-there u new o h) ∙ count-more by_bytes name (under u) c m.rising [] tt o c.count in
-      ap (λ (s : List ℕ). n ++ s) (below-empty img cut.first (piece_at cut x ∷ (gap_piece (record { start = to; end = to }) ∷ [])) to)
-      ∙ ap (λ (s : List ℕ). n ++ s) (above-empty img cut.first (piece_at cut x) to)
+      let counts = ap (count_after cut.rows.count cut.place) (row-there u new o h) ∙ count-more by_bytes name (under u) c m.rising [] tt o c.count in
+      ap (λ (s : List ℕ). n ++ s) (below-empty img cut.rows.first (piece_at cut x ∷ (gap_piece (record { start = to; end = to }) ∷ [])) to)
+      ∙ ap (λ (s : List ℕ). n ++ s) (above-empty img cut.rows.first (piece_at cut x) to)
       ∙ splices-bytes by_bytes name (under u)
       (record {
         rising = (tt, tt);
@@ -119,10 +119,10 @@ module _ (u : Sort) {img : List ℕ} {to : ℕ} (m : Map by_bytes (UnderName u))
 
   -- the same with the rows of two names changed, the lesser first; for rename
   pub two-changed : {j k : Text} {a b : Cut} (x y : List ℕ) (n : ℕ) (o p : Option (UnderName u)) → by_bytes.cmp j k ≡ Less
-      → CutIs by_bytes name (under u) img j m.rows to a → CutIs by_bytes name (under u) img k m.rows to b → a.first ≡ b.first
-      → n ≡ count_after (count_after b.count b.place (is_there p)) a.place (is_there o)
+      → CutIs by_bytes name (under u) img j m.rows to a → CutIs by_bytes name (under u) img k m.rows to b → a.rows.first ≡ b.rows.first
+      → n ≡ count_after (count_after b.rows.count b.place (is_there p)) a.place (is_there o)
       → x ≡ rows_bytes name (under u) (row_if by_bytes j o) → y ≡ rows_bytes name (under u) (row_if by_bytes k p)
-      → number_bytes n ++ spliced img a.first (piece_at a x ∷ (piece_at b y ∷ [])) to ≡ (by_name u).write (put by_bytes j o (put by_bytes k p m))
+      → number_bytes n ++ spliced img a.rows.first (piece_at a x ∷ (piece_at b y ∷ [])) to ≡ (by_name u).write (put by_bytes j o (put by_bytes k p m))
   unfolding over edit_rows
   two-changed {j} {k} {a} {b} x y n o p lt c d same en ex ey =
       let last = count-more by_bytes name (under u) d m.rising [] tt p d.count in
@@ -207,7 +207,7 @@ some-changed {u} {img} {k} {cut} {new} {p} {e} c d = record {
 }
 
 abbrev nowhere : Cut
-nowhere = record { count = 0; first = 0; row = 0; after = 0; place = None }
+nowhere = record { rows = record { first = 0; count = 0 }; gap = record { start = 0; end = 0 }; place = None }
 
 pub none-changed : {u : Sort} {img : List ℕ} {k : Text} {new : NewRow} → RowChanged img u None k new (cut_list None nowhere 0 new)
 unfolding empty rows_below row_here rows_above rows_bytes

@@ -22,18 +22,22 @@ use Rattle.rules.specs.Refusals.{refusal, bad_time}
 use Rattle.rules.specs.Outcomes.{result}
 use Rattle.rules.specs.ChangeCalls.{by_rules}
 use Rattle.change.specs.Changed.{Changes}
-use Rattle.change.specs.Cuts.{count_after}
+use Rattle.change.specs.Cuts.{count_after, CutsRecords}
 use Rattle.overlay.specs.NewLists.{kept_of, list_bytes}
-use Rattle.overlay.specs.Directories.{list_or}
+use Rattle.overlay.specs.NewRecords.{replaced_of, unchanged_of}
+use Rattle.overlay.specs.Directories.{list_or, LivesAt}
 use Rattle.overlay.specs.Altered.{Alters}
 use Rattle.survey.specs.declared.refusal.Refusal.{Refusal}
 use Rattle.change.specs.declared.cut.Cut.{Cut}
-use Rattle.change.specs.declared.section.Sections.{Sections}
+use Rattle.survey.specs.declared.store.Sections.{Sections}
 use Rattle.overlay.specs.declared.list.NewRow.{NewRow}
 use Rattle.overlay.specs.declared.list.NewRow.TheVariants as R
 use Rattle.overlay.specs.declared.list.NewRows.{NewRows}
 use Rattle.overlay.specs.declared.list.NewList.{NewList}
 use Rattle.overlay.specs.declared.list.NewList.TheVariants as L
+use Rattle.overlay.specs.declared.delta.LiveDelta.{LiveDelta}
+use Rattle.overlay.specs.declared.record.NewDirectory.{NewDirectory}
+use Rattle.overlay.specs.declared.record.NewRecord.TheVariants as N
 use Rattle.overlay.specs.declared.write.NewLive.{NewLive}
 
 abbrev pub has_row : NewRow → Bool
@@ -44,11 +48,10 @@ has_row (R.Entry inode) = true
 -- a list that ends at `end`, its rows cut at a name, with that name's row as it is to be
 abbrev pub changed_rows : Cut → ℕ → NewRow → NewRows
 changed_rows c end new = record {
-  count = count_after c.count c.place (has_row new);
-  first = c.first;
-  lower = record { start = c.first; end = c.first };
-  row = c.row;
-  after = c.after;
+  count = count_after c.rows.count c.place (has_row new);
+  first = c.rows.first;
+  lower = record { start = c.rows.first; end = c.rows.first };
+  gap = c.gap;
   new = new;
   upper = record { start = end; end = end };
   end = end;
@@ -98,6 +101,30 @@ stamped_of a t = record {
   created_at = a.created_at;
   xattrs = a.xattrs;
 }
+
+-- a directory delta with another row of the name's in added, and in removed
+pub record Renamed (img : List ℕ) (d : LiveDelta) (name : Text) (t : Time) (added removed : NewRow) (n : NewDirectory) : Type 0 where
+  pub stamps : n.attr_delta ≡ stamped_of d.attr_delta t
+  pub parent : n.parent ≡ d.parent
+  pub adds : RowChanged img U.Inode d.added name added n.added
+  pub removes : RowChanged img U.Nothing d.removed name removed n.removed
+
+-- with another parent
+abbrev pub parent_of : LiveDelta → ℕ → NewDirectory
+parent_of d q = record { attr_delta = d.attr_delta; parent = Some q; added = kept_of d.added; removed = kept_of d.removed }
+
+-- a directory delta gives way to what is made of it; a record of another sort stays
+abbrev pub GivesWay : (LiveDelta → NewDirectory → Type 0) → Cut → ℕ → Option LiveDelta → NewLive → Type 0
+GivesWay Made c i (Some d) r = (n : NewDirectory) × Made d n × (r ≡ replaced_of c i (N.Directory n))
+GivesWay Made c i None r = r ≡ unchanged_of c i
+
+-- the live one of an inode, where its record is cut
+pub record OnDirectory (Made : LiveDelta → NewDirectory → Type 0) (img : List ℕ) (p : Sections) (i : ℕ) (r : NewLive) : Type 0 where
+  pub cut : Cut
+  pub cuts : CutsRecords img p.live i cut
+  pub live : Option LiveDelta
+  pub lives : LivesAt img cut.place live
+  pub gives : GivesWay Made cut i live r
 
 -- what stands under the name in added, and in removed
 abbrev pub named_change : Text → Time → Option ℕ → Option (Unit {0}) → DirectoryChange

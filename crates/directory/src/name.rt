@@ -8,9 +8,9 @@ ghost use Rattle.image.specs.Under.{UnderName, under};
 ghost use Rattle.change.specs.Cuts.{compared};
 ghost use Rattle.directory.specs.Entries.{has_row, stays_absent, changed_rows, cut_list, RowChanged};
 
-use change::cut::{Cut, Sought, count_after, cut_at};
+use change::cut::{Cut, Gap, Sought, cut_at};
 use image::name::{Under, pass_under, read_name};
-use overlay::list::{Gap, NewList, NewRow, NewRows, kept};
+use overlay::list::{NewList, NewRow, NewRows, kept};
 use std::cmp::Ordering;
 use wire::fault::Fault;
 use wire::order::compare_part;
@@ -56,23 +56,14 @@ pub fn with_row(img: &[u8], list: Option<Part>, what: Under, name: &[u8], new: N
             let cut = cut_at(img, rows.start, &RowOf { what, name });
             with_cut(list, cut, advance(rows.start, rows.length), new)
         }
-        None => {
-            let cut = Cut {
-                count: 0,
-                first: 0,
-                row: 0,
-                after: 0,
-                place: None,
-            };
-            with_cut(list, cut, 0, new)
-        }
+        None => with_cut(list, Cut::NOWHERE, 0, new),
     }
 }
 
 // The list that ends at `end` with another row where it is cut. If the name has none before and after, the list stays. A clause on the count,
 // here and in `changed_rows`, as in `replaced`.
 fn with_cut(list: Option<Part>, cut: Cut, end: usize, new: NewRow) -> NewList
-    requires { cut.count ≤ last_count }
+    requires { cut.rows.count ≤ last_count }
     ensures { result ≡ cut_list list cut end new }
 {
     if stays_absent(cut.place, new) {
@@ -82,18 +73,17 @@ fn with_cut(list: Option<Part>, cut: Cut, end: usize, new: NewRow) -> NewList
 }
 
 fn changed_rows(cut: Cut, end: usize, new: NewRow) -> NewRows
-    requires { cut.count ≤ last_count }
+    requires { cut.rows.count ≤ last_count }
     ensures { result ≡ changed_rows cut end new }
 {
     NewRows {
-        count: count_after(cut.count, cut.place, has_row(new)),
-        first: cut.first,
+        count: cut.count_after(has_row(new)),
+        first: cut.rows.first,
         lower: Gap {
-            start: cut.first,
-            end: cut.first,
+            start: cut.rows.first,
+            end: cut.rows.first,
         },
-        row: cut.row,
-        after: cut.after,
+        gap: cut.gap,
         new,
         upper: Gap { start: end, end },
         end,

@@ -1,10 +1,9 @@
 // The layers of an image by their names, and where each has its record of an inode.
-ghost use Rattle.std.specs.Prelude.{◌≤◌};
-
 use change::section::open_sections;
+use image::rows::read_rows;
 use passes::inode::{Held, find_inode};
+use survey::batch::{MOST_BATCHES, MOST_LAYERS};
 use survey::refusal::Refusal;
-use wire::number::read_number;
 use writers::batch::read_batch_head;
 
 // The id of a batch, which live has none of, and the place of its record, if it has one.
@@ -14,46 +13,23 @@ pub struct Label {
     pub place: Option<usize>,
 }
 
-// The batches, front first, and then live. No `Vec`: the project has no heap.
-#[derive(Clone, Copy)]
-pub struct Labels {
-    pub layers: [Label; 17],
-    pub batches: usize,
-    ghost few: { batches ≤ 16 },
-}
-
-// The labels of an image that may be used; of another one, those of live alone.
-pub fn label_layers(img: &[u8], ino: u64) -> Labels {
-    let live = Label {
-        id: None,
-        place: None,
-    };
-    let alone = Labels {
-        layers: [live; 17],
-        batches: 0,
-    };
-    read_labels(img, ino).unwrap_or(alone)
-}
-
-fn read_labels(img: &[u8], ino: u64) -> Result<Labels, Refusal> {
+// The labels of a valid image: the batches, front first, as many as there are, and live last. No `Vec`: the project has no heap. No
+// count: where there is no batch, there is no label.
+pub fn read_labels(img: &[u8], ino: u64) -> Result<[Option<Label>; MOST_LAYERS], Refusal> {
     let sections = open_sections(img)?;
-    let (count, first) = read_number(img, sections.batches, 16)?;
-    let batches = count as usize;
-    let mut at = first;
-    let mut layers = [Label {
-        id: None,
-        place: None,
-    }; 17];
-    for label in layers[..batches].iter_mut() {
+    let rows = read_rows(img, sections.batches, MOST_BATCHES)?;
+    let mut labels = [None; MOST_LAYERS];
+    let mut at = rows.first;
+    for label in labels.iter_mut().take(rows.count as usize) {
         let (head, records) = read_batch_head(img, at)?;
         let (place, next) = find_inode(img, records, Held::Record, ino)?;
-        *label = Label {
+        *label = Some(Label {
             id: Some(head.id),
             place,
-        };
+        });
         at = next;
     }
-    let (place, _) = find_inode(img, at, Held::Record, ino)?;
-    layers[batches] = Label { id: None, place };
-    Ok(Labels { layers, batches })
+    let (place, _) = find_inode(img, sections.live, Held::Record, ino)?;
+    labels[MOST_LAYERS - 1] = Some(Label { id: None, place });
+    Ok(labels)
 }

@@ -7,17 +7,18 @@
 mod label;
 mod show;
 
-ghost use Rattle.std.specs.Prelude.{◌≤◌, ◌<◌, IfOk};
-
 use input::fill;
-use label::{Labels, label_layers};
+use label::{Label, read_labels};
 use lookup::child::lookup_child;
-use show::{write_answer, write_base, write_label, write_question, write_record, write_refusal};
+use script::line::parsed;
+use show::{Lookup, write_answer, write_base, write_label, write_question, write_record};
 use stack::name::open_named;
-use stack::stack::Stack;
 use std::env::FillError;
+use std::io;
 use std::rt::Env;
-use std::{io, str};
+use survey::batch::MOST_LAYERS;
+use survey::refusal::Refusal;
+use survey::store::MOST_BYTES;
 use trace::said::deciding;
 
 fn main(rt: HostRuntime) -> io::Result<()> {
@@ -47,12 +48,13 @@ fn complain(rt: &impl Eprint, what: &str) -> io::Result<()> {
     )
 }
 
-// The number that the digits make, if there are only digits, at least one, and 64 bits hold it. `parse` would take a sign.
+// The number that the digits make, if there are only digits, at least one, and 64 bits hold it. By itself `parsed` would take a sign.
 fn read_decimal(text: &[u8]) -> Option<u64> {
-    if !text.iter().all(|byte| byte.is_ascii_digit()) {
-        return None;
+    if text.iter().all(|byte| byte.is_ascii_digit()) {
+        parsed(text)
+    } else {
+        None
     }
-    str::from_utf8(text).ok()?.parse::<u64>().ok()
 }
 
 fn explain_name(rt: &HostRuntime, ino: u64) -> io::Result<()> {
@@ -63,58 +65,49 @@ fn explain_name(rt: &HostRuntime, ino: u64) -> io::Result<()> {
 }
 
 fn explain_image(rt: &HostRuntime, ino: u64, name: &[u8]) -> io::Result<()> {
-    let mut image = [0u8; 65537];
+    let mut image = [0u8; MOST_BYTES + 1];
     let size = fill(&mut rt.stdin(), &mut image)?;
     explain(rt, &image[..size], ino, name)
 }
 
 fn explain(rt: &impl Print, img: &[u8], ino: u64, name: &[u8]) -> io::Result<()> {
-    let stack = match open_named(img, ino, name) {
-        Ok(stack) => stack,
-        Err(refusal) => return write_refusal(rt, refusal),
+    let (lookup, labels) = match open_lookup(img, ino, name) {
+        Ok(opened) => opened,
+        Err(refusal) => return println!(rt; "{refusal}"),
     };
     write_question(rt, ino, name)?;
-    let labels = label_layers(img, ino);
-    let decides = deciding(stack, name);
-    write_layers(rt, stack, name, labels, decides)?;
-    write_base(rt, stack, name, decides == 0)?;
+    for label in labels.iter().rev().flatten() {
+        write_label(rt, label)?;
+        write_layer(rt, &lookup, label.place)?;
+    }
+    write_base(rt, &lookup)?;
     write_answer(rt, lookup_child(img, ino, name))
 }
 
-// A line for each layer, live first.
-fn write_layers(
-    rt: &impl Print,
-    stack: Stack,
-    name: &[u8],
-    labels: Labels,
-    decides: usize,
-) -> io::Result<()> {
-    let mut left = stack.places.count;
-    for layer in (0..=labels.batches).rev() {
-        let label = labels.layers[layer];
-        write_label(rt, label)?;
-        left = write_layer(rt, stack, name, label.place, left, decides)?;
-    }
-    Ok(())
+// The lookup, and the layers by their names.
+fn open_lookup<'a>(
+    img: &'a [u8],
+    ino: u64,
+    name: &'a [u8],
+) -> Result<(Lookup<'a>, [Option<Label>; MOST_LAYERS]), Refusal> {
+    let stack = open_named(img, ino, name)?;
+    let labels = read_labels(img, ino)?;
+    let lookup = Lookup {
+        stack,
+        name,
+        decides: deciding(stack, name),
+    };
+    Ok((lookup, labels))
 }
 
-// The highest of the lowest `left` records, if it is the one that stands at the layer's place. Answers how many are left.
-fn write_layer(
-    rt: &impl Print,
-    stack: Stack,
-    name: &[u8],
-    place: Option<usize>,
-    left: usize,
-    decides: usize,
-) -> io::Result<usize>
-    requires { left ≤ stack.places.count }
-    ensures { IfOk result (λ rest. rest ≤ left) }
-{
-    if left == 0 || Some(stack.places.deltas[left - 1]) != place {
-        println!(rt; "no record")?;
-        return Ok(left);
+// The record that stands at the layer's place, if it has one.
+fn write_layer(rt: &impl Print, lookup: &Lookup, place: Option<usize>) -> io::Result<()> {
+    let places = lookup.stack.places;
+    let found = places.deltas[..places.count]
+        .iter()
+        .position(|record| Some(*record) == place);
+    match found {
+        Some(i) => write_record(rt, lookup, i),
+        None => println!(rt; "no record"),
     }
-    let i = left - 1;
-    write_record(rt, stack, i, name, decides == left)?;
-    Ok(i)
 }

@@ -1,9 +1,10 @@
 -- What each reply says of the answer that a call's definition gives. Document 01: "A refusal gives its number, length 0 and, for a text, the
 -- empty part; target and rows stay." "'None' is an answer." A reply's `refusal` is 0 where there is none.
-use Rattle.std.specs.Prelude.{◌≡◌, Bool, true, false, List, ℕ, ◌+◌, ◌≤◌, min, ℤ, pos, length, None, Option, Some, Result, Ok, Err}
+use Rattle.std.specs.Prelude.{◌≡◌, Bool, true, false, List, ℕ, ◌+◌, ◌≤◌, ⊤, ℤ, pos, length, None, Option, Some, Result, Ok, Err}
 use Rattle.wire.specs.Reading.{part}
 use Rattle.survey.specs.Verdict.{number_of}
 use Rattle.survey.specs.declared.refusal.Refusal.{Refusal}
+use Rattle.wire.specs.declared.part.Part.{Part}
 use Rattle.wire.specs.declared.time.Time.{Time}
 use Rattle.image.specs.Meaning.{Text, Kind, kind_number}
 use Rattle.rules.specs.Answers.{Answer, refused, answer}
@@ -27,6 +28,11 @@ use Rattle.ffi.specs.declared.listings.RowsReply.{RowsReply}
 abbrev pub refusal_of : {A : Type 0} → Answer A → ℕ
 refusal_of (refused n) = n
 refusal_of (answer a) = 0
+
+-- the number of a refusal, 0 for none, and what there is
+abbrev pub parts_of : {A : Type 0} → Result (Option A) Refusal → ℕ × Option A
+parts_of (Ok o) = (0, o)
+parts_of (Err r) = (number_of r, None)
 
 -- "a yes/no call beside it gives the refusal number"
 abbrev pub yes_no_reply : Answer Bool → YesNoReply
@@ -104,13 +110,19 @@ pub record TextReplies (img : List ℕ) (def : Answer (Option Text)) (r : TextRe
   pub size : r.length ≡ length (text_of def)
   pub inside : r.start + r.length ≤ length img
 
+-- where there is no text, the empty part is that at 0
+abbrev pub BlankText : Result (Option Part) Refusal → TextReply → Type 0
+BlankText (Err n) r = r ≡ no_text (number_of n)
+BlankText (Ok None) r = r ≡ no_text 0
+BlankText (Ok (Some p)) r = ⊤
+
 -- ---- rows
 
--- what an answer says, with so many rows lent
-abbrev pub count_reply : Result (Option ℕ) Refusal → ℕ → RowsReply
-count_reply (Err r) lent = record { refusal = number_of r; found = false; count = 0 }
-count_reply (Ok None) lent = record { refusal = 0; found = false; count = 0 }
-count_reply (Ok (Some n)) lent = record { refusal = 0; found = true; count = min n lent }
+-- what an answer says
+abbrev pub count_reply : Result (Option ℕ) Refusal → RowsReply
+count_reply (Err r) = record { refusal = number_of r; found = false; count = 0 }
+count_reply (Ok None) = record { refusal = 0; found = false; count = 0 }
+count_reply (Ok (Some n)) = record { refusal = 0; found = true; count = n }
 
 -- "A listing fills a lent row of entries": how many
 abbrev pub rows_reply : Answer (Option (List Row)) → RowsReply

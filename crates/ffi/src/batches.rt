@@ -1,14 +1,13 @@
 // The calls that change the queue of batches and the base. Each writes the new image to the target, or refuses and writes nothing.
-#![tactic(auto, using(crate::proofs::Replying::changes))]
-
 ghost use Rattle.std.specs.Prelude.{length};
 ghost use Rattle.rules.specs.Initial.{usual};
 ghost use Rattle.rules.specs.ChangeCalls.{freeze_live, fold_entries, pop_flushed_batch, record_mutation, request_freeze, snapshot_all};
 ghost use Rattle.ffi.specs.Replies.{ChangeReplies, time_given};
 
-use crate::reply::{ChangeReply, time_given};
+use crate::reply::ChangeReply;
 use flush::flush::{fold_entries, snapshot_all};
 use queue::queue::{freeze_live, pop_flushed_batch, record_mutation, request};
+use wire::time::Time;
 
 // Makes live the last batch, unless the queue has reached a limit on batches, their bytes or their operations.
 #[unsafe(no_mangle)]
@@ -23,7 +22,7 @@ pub extern "C" fn appendfs_freeze_live(
 ) -> ChangeReply
     ensures { ChangeReplies (freeze_live usual img.now depth bytes operations (time_given seconds nanos) (length target.old)) target.old result target.new }
 {
-    let time = time_given(seconds, nanos);
+    let time = Time { seconds, nanos };
     ChangeReply::from(freeze_live(img, depth, bytes, operations, time, target))
 }
 

@@ -1,16 +1,16 @@
 // The calls that change the records of a layer. Each writes the new image to the target, or refuses and writes nothing.
-#![tactic(auto, using(crate::proofs::Replying::changes))]
-
 ghost use Rattle.std.specs.Prelude.{length};
 ghost use Rattle.rules.specs.Initial.{usual};
-ghost use Rattle.rules.specs.ChangeCalls.{insert_new_node, tombstone as tombstoned, add_dir_entry, remove_dir_entry, update_dir_parent, update_attr_delta, normalize_directory_deltas};
+ghost use Rattle.rules.specs.ChangeCalls.{insert_new_node, tombstone as tombstoned, add_dir_entry, remove_dir_entry};
+ghost use Rattle.rules.specs.ChangeCalls.{update_dir_parent, update_attr_delta, normalize_directory_deltas};
 ghost use Rattle.ffi.specs.Replies.{ChangeReplies, time_given};
 
-use crate::reply::{ChangeReply, time_given};
+use crate::reply::ChangeReply;
 use directory::directory::{add_dir_entry, remove_dir_entry, update_dir_parent};
 use normalize::normalize::normalize_directory_deltas;
 use overlay::live::{insert_new_node, tombstone};
 use update::update::update_attr_delta;
+use wire::time::Time;
 
 // Puts a record, given from its code on, in the place of the live one.
 #[unsafe(no_mangle)]
@@ -46,7 +46,7 @@ pub extern "C" fn appendfs_add_dir_entry(
 ) -> ChangeReply
     ensures { ChangeReplies (add_dir_entry usual img.now ino name.now inode (time_given seconds nanos) (length target.old)) target.old result target.new }
 {
-    let time = time_given(seconds, nanos);
+    let time = Time { seconds, nanos };
     ChangeReply::from(add_dir_entry(img, ino, name, inode, time, target))
 }
 
@@ -62,7 +62,7 @@ pub extern "C" fn appendfs_remove_dir_entry(
 ) -> ChangeReply
     ensures { ChangeReplies (remove_dir_entry usual img.now ino name.now (time_given seconds nanos) (length target.old)) target.old result target.new }
 {
-    let time = time_given(seconds, nanos);
+    let time = Time { seconds, nanos };
     ChangeReply::from(remove_dir_entry(img, ino, name, time, target))
 }
 

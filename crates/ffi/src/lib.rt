@@ -1,4 +1,4 @@
-// The library for a controller: every call that reads or changes an image, exported to C. Each takes any bytes.
+// The library for a controller: every call that reads or changes an image, exported to C. Each takes any bytes. One function for each C name.
 #![tactic(auto)]
 
 pub mod batches;

@@ -4,6 +4,7 @@ ghost use Rattle.rules.specs.Initial.{usual};
 ghost use Rattle.rules.specs.ReadCalls.{list_directory, list_xattrs};
 ghost use Rattle.ffi.specs.Replies.{count_reply, RowsReplies};
 
+use crate::reply::parts;
 use rows::listing::{Entry, list_directory, list_xattrs};
 use survey::refusal::Refusal;
 
@@ -16,26 +17,16 @@ pub struct RowsReply {
     pub count: usize,
 }
 
-// No more rows are filled than were lent.
-fn rows_reply(answer: Result<Option<usize>, Refusal>, lent: usize) -> RowsReply
-    ensures { result ≡ count_reply answer lent }
-{
-    match answer {
-        Ok(Some(count)) => RowsReply {
-            refusal: 0,
-            found: true,
-            count: count.min(lent),
-        },
-        Ok(None) => RowsReply {
-            refusal: 0,
-            found: false,
-            count: 0,
-        },
-        Err(refusal) => RowsReply {
-            refusal: refusal.number(),
-            found: false,
-            count: 0,
-        },
+impl From<Result<Option<usize>, Refusal>> for RowsReply {
+    ghost from_gives = { λ answer reply. reply ≡ count_reply answer };
+
+    fn from(answer: Result<Option<usize>, Refusal>) -> RowsReply {
+        let (refusal, count) = parts(answer);
+        RowsReply {
+            refusal,
+            found: count.is_some(),
+            count: count.unwrap_or(0),
+        }
     }
 }
 
@@ -44,7 +35,7 @@ fn rows_reply(answer: Result<Option<usize>, Refusal>, lent: usize) -> RowsReply
 pub extern "C" fn appendfs_list_directory(img: &[u8], ino: u64, rows: &mut [Entry]) -> RowsReply
     ensures { RowsReplies (list_directory usual img.now ino (length rows.old)) rows.old rows.new result }
 {
-    rows_reply(list_directory(img, ino, rows), rows.len())
+    RowsReply::from(list_directory(img, ino, rows))
 }
 
 // The names of the extended attributes, rising by bytes.
@@ -52,5 +43,5 @@ pub extern "C" fn appendfs_list_directory(img: &[u8], ino: u64, rows: &mut [Entr
 pub extern "C" fn appendfs_list_xattrs(img: &[u8], ino: u64, rows: &mut [Entry]) -> RowsReply
     ensures { RowsReplies (list_xattrs usual img.now ino (length rows.old)) rows.old rows.new result }
 {
-    rows_reply(list_xattrs(img, ino, rows), rows.len())
+    RowsReply::from(list_xattrs(img, ino, rows))
 }

@@ -3,13 +3,12 @@
 ghost use Rattle.std.specs.Prelude.{◌≡◌};
 ghost use Rattle.stack.specs.Stacks.{type_of};
 ghost use Rattle.layers.specs.Attrs.{attr_if};
-ghost use Rattle.rules.specs.Answers.{answer};
 ghost use Rattle.nodes.specs.Options.{text_of as textMeant};
 ghost use Rattle.image.specs.FileTypes.{kind_meant};
 ghost use Rattle.attrs.specs.Meant.{attr_meant};
 ghost use Rattle.survey.specs.Verdict.{numbered};
 ghost use Rattle.layers.specs.Answered.{answered};
-ghost use Rattle.ffi.specs.Replies.{yes_no_reply, type_reply, inode_reply, time_out, attr_out, no_attr, attr_reply, no_text, TextReplies, time_given, reply_of};
+ghost use Rattle.ffi.specs.Replies.{yes_no_reply, type_reply, inode_reply, time_out, attr_out, attr_reply, TextReplies, BlankText, parts_of, reply_of};
 
 use attrs::node::FileAttr;
 use image::kind::FileType;
@@ -41,15 +40,16 @@ pub struct InodeReply {
     pub inode: u64,
 }
 
+// A time as C has it; wire's `Time` knows no C.
 #[repr(C)]
-#[derive(Clone, Copy)]
+#[derive(Clone, Copy, Default)]
 pub struct Timestamp {
     pub seconds: i64,
     pub nanos: u32,
 }
 
 #[repr(C)]
-#[derive(Clone, Copy)]
+#[derive(Clone, Copy, Default)]
 pub struct Attr {
     pub ino: u64,
     pub kind: u32,
@@ -104,26 +104,26 @@ impl From<Result<bool, Refusal>> for YesNoReply {
     }
 }
 
+// The number of the refusal, 0 for none, and what there is.
+// Only of an `Option`: over any `T: Default` the contract could name no value, since `default` promises `is_default` of it.
+pub(crate) fn parts<T>(answer: Result<Option<T>, Refusal>) -> (u32, Option<T>)
+    ensures { result ≡ parts_of answer }
+{
+    match answer {
+        Ok(found) => (0, found),
+        Err(refusal) => (refusal.number(), None),
+    }
+}
+
 impl From<Result<Option<FileType>, Refusal>> for TypeReply {
     ghost from_gives = { λ answer reply. reply ≡ type_reply (answered type_of answer) };
 
     fn from(answer: Result<Option<FileType>, Refusal>) -> TypeReply {
-        match answer {
-            Ok(Some(kind)) => TypeReply {
-                refusal: 0,
-                found: true,
-                kind: kind as u32,
-            },
-            Ok(None) => TypeReply {
-                refusal: 0,
-                found: false,
-                kind: 0,
-            },
-            Err(refusal) => TypeReply {
-                refusal: refusal.number(),
-                found: false,
-                kind: 0,
-            },
+        let (refusal, kind) = parts(answer);
+        TypeReply {
+            refusal,
+            found: kind.is_some(),
+            kind: kind.map_or(0, |kind| kind as u32),
         }
     }
 }
@@ -132,22 +132,11 @@ impl From<Result<Option<u64>, Refusal>> for InodeReply {
     ghost from_gives = { λ answer reply. reply ≡ inode_reply (answered (λ found. found) answer) };
 
     fn from(answer: Result<Option<u64>, Refusal>) -> InodeReply {
-        match answer {
-            Ok(Some(inode)) => InodeReply {
-                refusal: 0,
-                found: true,
-                inode,
-            },
-            Ok(None) => InodeReply {
-                refusal: 0,
-                found: false,
-                inode: 0,
-            },
-            Err(refusal) => InodeReply {
-                refusal: refusal.number(),
-                found: false,
-                inode: 0,
-            },
+        let (refusal, inode) = parts(answer);
+        InodeReply {
+            refusal,
+            found: inode.is_some(),
+            inode: inode.unwrap_or(0),
         }
     }
 }
@@ -183,88 +172,34 @@ impl From<FileAttr> for Attr {
     }
 }
 
-// All fields 0. It takes a number, as C has it: 0 where there is no refusal, which no `Refusal` has.
-fn no_attr(refusal: u32) -> AttrReply
-    ensures { result ≡ no_attr refusal }
-{
-    let epoch = Timestamp {
-        seconds: 0,
-        nanos: 0,
-    };
-    let attr = Attr {
-        ino: 0,
-        kind: 0,
-        perm: 0,
-        nlink: 0,
-        uid: 0,
-        gid: 0,
-        rdev: 0,
-        size: 0,
-        atime: epoch,
-        mtime: epoch,
-        ctime: epoch,
-    };
-    AttrReply {
-        refusal,
-        found: false,
-        attr,
-    }
-}
-
+// Without attributes all their fields are 0.
 impl From<Result<Option<FileAttr>, Refusal>> for AttrReply {
     ghost from_gives = { λ answer reply. reply ≡ attr_reply (answered attr_if answer) };
 
     fn from(answer: Result<Option<FileAttr>, Refusal>) -> AttrReply {
-        match answer {
-            Ok(Some(attr)) => AttrReply {
-                refusal: 0,
-                found: true,
-                attr: Attr::from(attr),
-            },
-            Ok(None) => no_attr(0),
-            Err(refusal) => no_attr(refusal.number()),
+        let (refusal, attr) = parts(answer);
+        AttrReply {
+            refusal,
+            found: attr.is_some(),
+            attr: attr.map(Attr::from).unwrap_or_default(),
         }
     }
 }
 
-// The empty part. It takes a number, as `no_attr` does.
-pub fn no_text(refusal: u32) -> TextReply
-    ensures { result ≡ no_text refusal }
+// An empty text is answered as the part at 0, as no text is. No `From`, since it takes the image.
+pub fn text_reply(img: &[u8], answer: Result<Option<Part>, Refusal>) -> TextReply
+    ensures replies { TextReplies img.now (answered (textMeant img.now) answer) result }
+    ensures blank { BlankText answer result }
 {
+    let (refusal, text) = parts(answer);
+    let place = text.unwrap_or(Part::EMPTY);
+    let length = place.of(img).len();
     TextReply {
         refusal,
-        found: false,
-        start: 0,
-        length: 0,
-    }
-}
-
-// Of a text that is empty the place says nothing: it is the part at 0.
-pub fn text_reply(img: &[u8], text: Option<Part>) -> TextReply
-    ensures { TextReplies img.now (answer (textMeant img.now text)) result }
-{
-    let Some(place) = text else {
-        return no_text(0);
-    };
-    let bytes = place.of(img);
-    let length = bytes.len();
-    let mut start = place.start;
-    if length == 0 {
-        start = 0;
-    }
-    TextReply {
-        refusal: 0,
-        found: true,
-        start,
+        found: text.is_some(),
+        start: if length == 0 { 0 } else { place.start },
         length,
     }
-}
-
-// The time that a call is given.
-pub fn time_given(seconds: i64, nanos: u32) -> Time
-    ensures { result ≡ time_given seconds nanos }
-{
-    Time { seconds, nanos }
 }
 
 // The length of a refusal is 0.

@@ -1,6 +1,6 @@
 -- Fold and snapshot: their new images, and how they end.
 -- Assumes nothing.
-use Rattle.std.specs.Prelude.{None, Result, Ok, Err, IsOk, is_ok}
+use Rattle.std.specs.Prelude.{None, Result, Err}
 use Rattle.std.specs.Result.{result_err}
 use mathlib.Core.Path.{◌≡◌, refl, sym, ap, ◌∙◌}
 use mathlib.Core.Bool.{Bool, true, false, cond}
@@ -9,20 +9,17 @@ use Prim.Native.Nat.{ℕ, ◌+◌, ◌≤◌, min}
 use native.Mathlib.Omega.{arith}
 use lib.ListN.{length, take, length-append, drop_of_length-le}
 use lib.Seq.{sets, take-length}
-use Rattle.wire.specs.declared.fault.Fault.{Fault}
-use Rattle.wire.specs.Number.{edge, number_bytes, number_read}
+use Rattle.wire.specs.Number.{edge, number_bytes}
 use Rattle.wire.specs.Put.{Put}
 use Rattle.wire.proofs.Puts.{put-append}
-use Rattle.wire.specs.Reading.{Reads, meant}
 use Rattle.wire.specs.Maps.{empty}
 use Rattle.image.specs.Meaning.{Batch, Layer, Store}
-use Rattle.image.specs.Fits.{FitsStore}
 use Rattle.survey.specs.Verdict.{number_of, verdict_of}
 use Rattle.survey.specs.declared.refusal.Refusal.{Refusal}
 use Rattle.survey.specs.declared.refusal.Refusal.TheVariants as D
+use Rattle.image.specs.Rows.{RowsAt}
+use Rattle.image.specs.declared.rows.Rows.{Rows}
 use Rattle.image.specs.RoundTrip.{write_image}
-use Rattle.writers.specs.Tails.{TailParts, tail, tail_meant}
-use Rattle.writers.specs.declared.tail.Tail.{Tail}
 use Rattle.rules.specs.Initial.{usual}
 use Rattle.rules.specs.Answers.{refused, answer, first_of}
 use Rattle.rules.specs.Refusals.{is_empty}
@@ -35,10 +32,10 @@ use Rattle.rules.specs.ReadCalls.{map_answer}
 use Rattle.rules.specs.ChangeCalls.{new_image, fold_entries, snapshot_all}
 use Rattle.rules.proofs.Asked.{over-fine, verdict-refused}
 use Rattle.change.specs.Changed.{Changes, if_fits}
-use Rattle.change.specs.Sections.{tail_of, Stands}
-use Rattle.change.specs.declared.section.Sections.{Sections}
-use Rattle.change.proofs.Queued.{stands-counted, stands-count}
-use Rattle.change.proofs.Sections.{span-part, span-both, span-reads, store_bytes, stands-fits}
+use Rattle.change.specs.Sections.{Stands}
+use Rattle.survey.specs.declared.store.Sections.{Sections}
+use Rattle.change.proofs.Queued.{rows-count}
+use Rattle.change.proofs.Sections.{span-part, span-both, store_bytes}
 use Rattle.change.proofs.Finishing.{changes-refused, changes-made}
 use Rattle.change.proofs.Batches.{queue_bytes, batches-bytes}
 use Rattle.walk.specs.Ready.{Ready}
@@ -59,8 +56,8 @@ use Rattle.base.proofs.Bases.{base-written}
 -- its nodes were counted and measured
 module _ (w : Walk) (f : Flush) {d : Bool} (e : d ≡ drops_of f) {l m : List ℕ} {n : Written} (a : PutsNodes l 0 (nodes_of d (stacks_left w)) n m) where
   -- the rest measured
-  pub image-measured : {l₁ l₂ l₃ : List ℕ} {q p r : ℕ} → Put l₁ 0 (number_bytes n.count) q l₂ → p ≡ min (q + n.end) edge
-      → Put l₂ p (rest_bytes w.img.now f) r l₃
+  pub image-measured : {l₁ l₂ l₃ l₄ : List ℕ} {q p r : ℕ} → Put l₁ 0 (number_bytes n.count) q l₂ → p ≡ min (q + n.end) edge
+      → Put l₄ p (rest_bytes w.img.now f) r l₃
       → Put l 0 (flushed w f) r (sets l 0 (flushed w f))
   image-measured b k c = record {
     to =
@@ -97,93 +94,66 @@ snapshot-fits {img} {p} {s} w room = over-fine _ img w.short w.is ∙ go (has_ro
     go true = refl
     go false = refl
 
-tail-fits : {s : Store} → FitsStore s → tail.Fits (tail_of s)
-tail-fits f = (f.next, (f.bytes, (f.operations, f.request)))
-
 some-batch : (bs : List Batch) → (length bs ≡ 0 → ⊥) → first_of ((8, is_empty bs) ∷ []) ≡ None
 some-batch [] h = absurd (h refl)
 some-batch (b ∷ bs) h = refl
 
--- what means something was read
-meant-ok : {X A : Type 0} (m : X → A) {x : A × ℕ} (o : Result (X × ℕ) Fault) → meant m o ≡ Ok x → IsOk o
-meant-ok m (Ok y) e = refl
-meant-ok {A = A} m (Err f) e = ap (λ (o : Result (A × ℕ) Fault). is_ok o) e
+module _ {img : List ℕ} {p : Sections} {s : Store} (w : Stands img p s) {rows : Rows} (a : RowsAt img 16 p.batches rows) where
+  opened : {m : ℕ} {r : Layers} → OpensLayers img p m r → m ≤ rows.count + 1 → LayersOf img s p.tail m r
+  opened l h = l.opens s w (omega (arith, h, rows-count w a, count-layers s.batches s.live))
 
-module _ {img : List ℕ} {p : Sections} {s : Store} (w : Stands img p s) {o : Result (ℕ × ℕ) Fault} (a : Reads img (number_read 16) p.batches o) where
-  pub count-ok : IsOk o
-  count-ok = rw (stands-counted w a) refl
+  -- the runs of the layers that there are are a walk's
+  pub opened-ready : {m : ℕ} {r : Layers} → OpensLayers img p m r → m ≤ rows.count + 1 → Ready img r.runs
+  opened-ready l h = (opened l h).ready
 
-  module _ {x : ℕ × ℕ} (c : o ≡ Ok x) where
-    opened : {m : ℕ} {r : Layers} → OpensLayers img p m r → m ≤ x.0 + 1 → LayersOf img s p.tail m r
-    opened l h = l.opens s w (omega (arith, h, stands-count w a c, count-layers s.batches s.live))
+  -- a number holds the count of its stacks
+  pub opened-few : {m : ℕ} {r : Layers} → OpensLayers img p m r → m ≤ rows.count + 1 → (k : Walk) → k.img.now ≡ img → k.runs ≡ r.runs
+      → length (stacks_left k) ≤ edge
+  opened-few l h k image same = rw (image, same) (opened l h).few
 
-    -- the runs of the layers that there are are a walk's
-    pub opened-ready : {m : ℕ} {r : Layers} → OpensLayers img p m r → m ≤ x.0 + 1 → Ready img r.runs
-    opened-ready l h = (opened l h).ready
+  -- ---- "Fold applies the front batch to the base."
 
-    -- a number holds the count of its stacks
-    pub opened-few : {m : ℕ} {r : Layers} → OpensLayers img p m r → m ≤ x.0 + 1 → (k : Walk) → k.img.now ≡ img → k.runs ≡ r.runs
-        → length (stacks_left k) ≤ edge
-    opened-few l h k image same = rw (image, same) (opened l h).few
+  pub fold-none : {old : List ℕ} → rows.count ≡ 0 → Changes (fold_entries usual img (length old)) old (Err D.NoBatch) old
+  fold-none h = changes-refused Call.fold w (rw (drop_of_length-le s.batches {i = 0} (omega (arith, rows-count w a, h))))
 
-    -- ---- "Fold applies the front batch to the base."
+  module _ {r : Layers} (l : OpensLayers img p 1 r) (k : Walk) (image : k.img.now ≡ img) (same : k.runs ≡ r.runs) where
+    front-over : Over s.base (take 1 (layers s)) k
+    front-over = record { are = rw (image, same) ((opened l (omega arith)).are) }
 
-    pub fold-none : {old : List ℕ} → x.0 ≡ 0 → Changes (fold_entries usual img (length old)) old (Err D.NoBatch) old
-    fold-none h = changes-refused Call.fold w (rw (drop_of_length-le s.batches {i = 0} (omega (arith, stands-count w a c, h))))
+    fold-base : (bs : List Batch) (live : Layer) → (length bs ≡ 0 → ⊥) → fold_all usual (take 1 (with_live bs live)) s.base ≡ fold_front usual bs s.base
+    unfolding fold_all
+    fold-base [] live h = absurd (h refl)
+    fold-base (b ∷ bs) live h = refl
 
-    module _ {r : Layers} (l : OpensLayers img p 1 r) (k : Walk) (image : k.img.now ≡ img) (same : k.runs ≡ r.runs) where
-      front-over : Over s.base (take 1 (layers s)) k
-      front-over = record { are = rw (image, same) ((opened l (omega arith)).are) }
+    fold-bytes : (rows.count ≡ 0 → ⊥) → flushed k (F.Fold p.batches) ≡ write_image (set_base (fold_front usual s.batches s.base) s)
+    fold-bytes h =
+        rw (
+          base-written front-over false,
+          image,
+          span-part (span-both w.batches (span-both w.live w.tail)),
+          store_bytes,
+          fold-base s.batches s.live (λ z. h (rows-count w a ∙ z)),
+        )
 
-      fold-base : (bs : List Batch) (live : Layer) → (length bs ≡ 0 → ⊥) → fold_all usual (take 1 (with_live bs live)) s.base ≡ fold_front usual bs s.base
-      unfolding fold_all
-      fold-base [] live h = absurd (h refl)
-      fold-base (b ∷ bs) live h = refl
+    pub fold-made : {old new : List ℕ} {answer : Result ℕ Refusal} → (rows.count ≡ 0 → ⊥)
+        → Changes (if_fits (flushed k (F.Fold p.batches)) (length old)) old answer new
+        → Changes (fold_entries usual img (length old)) old answer new
+    unfolding result
+    fold-made h = changes-made Call.fold w (some-batch s.batches (λ z. h (rows-count w a ∙ z))) (fold-bytes h)
 
-      fold-bytes : (x.0 ≡ 0 → ⊥) → flushed k (F.Fold p.batches) ≡ write_image (set_base (fold_front usual s.batches s.base) s)
-      fold-bytes h =
-          rw (
-            base-written front-over false,
-            image,
-            span-part (span-both w.batches (span-both w.live w.tail)),
-            store_bytes,
-            fold-base s.batches s.live (λ z. h (stands-count w a c ∙ z)),
-          )
+  -- ---- "Snapshot folds every layer"
 
-      pub fold-made : {old new : List ℕ} {answer : Result ℕ Refusal} → (x.0 ≡ 0 → ⊥)
-          → Changes (if_fits (flushed k (F.Fold p.batches)) (length old)) old answer new
-          → Changes (fold_entries usual img (length old)) old answer new
-      unfolding result
-      fold-made h = changes-made Call.fold w (some-batch s.batches (λ z. h (stands-count w a c ∙ z))) (fold-bytes h)
+  module _ {m : ℕ} {r : Layers} (l : OpensLayers img p m r) (k : Walk) (image : k.img.now ≡ img) (same : k.runs ≡ r.runs) (e : m ≡ rows.count + 1) where
+    all-over : Over s.base (layers s) k
+    all-over =
+        let z : m ≡ length (layers s) = omega (arith, e, rows-count w a, count-layers s.batches s.live) in
+        record { are = rw (image, same) (rw (z, take-length) at (opened l (omega (arith, e))).are) }
 
-    -- ---- "Snapshot folds every layer"
+    module _ {n : ℕ} (next : n ≡ s.next) where
+      snapshot-bytes : flushed k (F.Snapshot n) ≡ write_image (snapshot usual s)
+      unfolding snapshot queue_bytes empty
+      snapshot-bytes = rw (base-written all-over true, next, store_bytes, batches-bytes, append-nil)
 
-    module _ {m : ℕ} {r : Layers} (l : OpensLayers img p m r) (k : Walk) (image : k.img.now ≡ img) (same : k.runs ≡ r.runs) (e : m ≡ x.0 + 1) where
-      all-over : Over s.base (layers s) k
-      all-over =
-          let z : m ≡ length (layers s) = omega (arith, e, stands-count w a c, count-layers s.batches s.live) in
-          record { are = rw (image, same) (rw (z, take-length) at (opened l (omega (arith, e))).are) }
-
-      module _ {n : ℕ} (next : n ≡ s.next) where
-        snapshot-bytes : flushed k (F.Snapshot n) ≡ write_image (snapshot usual s)
-        unfolding snapshot queue_bytes empty
-        snapshot-bytes = rw (base-written all-over true, next, store_bytes, batches-bytes, append-nil)
-
-        pub snapshot-made : {old new : List ℕ} {answer : Result ℕ Refusal} → Changes (if_fits (flushed k (F.Snapshot n)) (length old)) old answer new
-            → Changes (snapshot_all usual img (length old)) old answer new
-        snapshot-made {old} h = rw (snapshot-fits w (length old), ← snapshot-bytes) h
-
-tail-is : {img : List ℕ} {p : Sections} {s : Store} → Stands img p s → (o : Result (Tail × ℕ) Fault) → Reads img tail.read p.tail (meant tail_meant o)
-    → meant tail_meant o ≡ Ok (tail_of s, length img)
-tail-is w o g = span-reads tail w.tail (tail-fits (stands-fits w)) g
-
-module _ {img : List ℕ} {p : Sections} {s : Store} (w : Stands img p s) (o : Result (Tail × ℕ) Fault)
-    (g : Reads img tail.read p.tail (meant tail_meant o)) where
-  pub tail-ok : IsOk o
-  tail-ok = meant-ok tail_meant o (tail-is w o g)
-
-  pub next-is : {y : Tail × ℕ} → o ≡ Ok y → y.0.next_id ≡ s.next
-  next-is {y} d =
-      let e : ◌≡◌ {A = Result (TailParts × ℕ) Fault} (Ok (tail_meant y.0, y.1)) (Ok (tail_of s, length img)) = rw d at (tail-is w o g) in
-      let z : tail_meant y.0 ≡ tail_of s = cc in
-      ap (λ (t : TailParts). t.0) z
+      pub snapshot-made : {old new : List ℕ} {answer : Result ℕ Refusal} → Changes (if_fits (flushed k (F.Snapshot n)) (length old)) old answer new
+          → Changes (snapshot_all usual img (length old)) old answer new
+      snapshot-made {old} h = rw (snapshot-fits w (length old), ← snapshot-bytes) h

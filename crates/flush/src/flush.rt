@@ -6,9 +6,10 @@ ghost use Rattle.change.specs.Changed.{Changes};
 
 use crate::write::{Flush, write_flushed};
 use change::section::open_sections;
+use image::rows::rows_at;
+use survey::batch::MOST_BATCHES;
 use survey::refusal::Refusal;
 use walk::open::open_layers;
-use wire::number::read_number;
 use writers::tail::read_tail;
 
 // Applies the front batch to the base. The batch stays in the queue.
@@ -16,8 +17,8 @@ pub fn fold_entries(img: &[u8], target: &mut [u8]) -> Result<usize, Refusal>
     ensures { Changes (fold_entries usual img.now (length target.old)) target.old result target.new }
 {
     let sections = open_sections(img)?;
-    let (count, _) = read_number(img, sections.batches, 16).unwrap();
-    if count == 0 {
+    let batches = rows_at(img, sections.batches, MOST_BATCHES);
+    if batches.count == 0 {
         return Err(Refusal::NoBatch);
     }
     let layers = open_layers(img, sections, 1);
@@ -31,8 +32,8 @@ pub fn snapshot_all(img: &[u8], target: &mut [u8]) -> Result<usize, Refusal>
     ensures { Changes (snapshot_all usual img.now (length target.old)) target.old result target.new }
 {
     let sections = open_sections(img)?;
-    let (count, _) = read_number(img, sections.batches, 16).unwrap();
-    let layers = open_layers(img, sections, count + 1);
+    let batches = rows_at(img, sections.batches, MOST_BATCHES);
+    let layers = open_layers(img, sections, batches.count + 1);
     let (tail, _) = read_tail(img, sections.tail).unwrap();
     let walk = layers.walk(img);
     write_flushed(&walk, Flush::Snapshot(tail.next_id), target)

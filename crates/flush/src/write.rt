@@ -15,7 +15,7 @@ use wire::number::put_number;
 use wire::put::advance;
 use writers::tail::{Tail, put_tail};
 
-// What follows the new base.
+// What follows the new base. No closure: one value says what is dropped and what follows; a contract over closures would take both.
 #[derive(Clone, Copy)]
 pub enum Flush {
     // the old image, from its batches on
@@ -35,15 +35,9 @@ fn drops_of(flush: Flush) -> bool
 fn put_emptied(buf: &mut [u8], at: usize, next_id: u64) -> usize
     ensures { Put buf.old at (emptied next_id) result buf.new }
 {
-    let tail = Tail {
-        next_id,
-        bytes: 0,
-        operations: 0,
-        request: None,
-    };
     let live = put_number(buf, at, 0);
     let end = put_number(buf, live, 0);
-    put_tail(buf, end, tail)
+    put_tail(buf, end, Tail::unstaged(next_id))
 }
 
 // What follows the new base.
@@ -63,11 +57,10 @@ pub fn write_flushed(walk: &Walk, flush: Flush, target: &mut [u8]) -> Result<usi
     ensures { Changes (if_fits (flushed walk.entry.now flush) (length target.old)) target.old result target.new }
 {
     let img = walk.img;
-    let mut none = [0u8; 0];
     let drops = drops_of(flush);
-    let nodes = put_nodes(&mut none, 0, walk, drops);
-    let count = put_number(&mut none, 0, nodes.count);
-    let size = put_rest(&mut none, advance(count, nodes.end), img, flush);
+    let nodes = put_nodes(&mut [], 0, walk, drops);
+    let count = put_number(&mut [], 0, nodes.count);
+    let size = put_rest(&mut [], advance(count, nodes.end), img, flush);
     if lacks_room(size, target.len()) {
         return Err(Refusal::NoRoom);
     }

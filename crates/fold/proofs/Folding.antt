@@ -46,7 +46,7 @@ use Rattle.stack.specs.declared.stack.Stack.{Stack}
 use Rattle.stack.proofs.Walks.{records-more}
 use Rattle.apply.specs.Folded.{body_with, node_with, on_attributes, on_entries, FirstNode, AppliesNode}
 use Rattle.fold.specs.Lists.{attributes_of, entries_of}
-use Rattle.fold.specs.FoldedNodes.{Comes, AttributesAfter, EntriesAfter, entries_from, Shows, ShowsIf, FoldsBase, FoldsDelta, FoldsRecord}
+use Rattle.fold.specs.FoldedNodes.{Comes, AttributesAfter, EntriesAfter, entries_from, Shows, ShowsIf, WithDelta, FoldsBase, FoldsDelta, FoldsRecord}
 use Rattle.fold.specs.FoldedNodes.{folded_in, FoldsTo, origin_bytes, body_written, PutsBody, bytes_if, Merged}
 use Rattle.fold.specs.declared.folded.Origin.{Origin}
 use Rattle.fold.specs.declared.folded.Origin.TheVariants as From
@@ -69,16 +69,16 @@ shows-kind {img} {f} h = kind-with img f.node.kind h.entries ∙ ap (λ (x : M.N
 
 -- ---- a record folded in
 
-after : (img : List ℕ) (d : NodeDelta) (n : Node) (r : Folded) → AppliesNode d n r.node → {o p : Origin} → AttributesAfter d o r.attributes
-    → EntriesAfter d p r.entries
-    → (vs : Attributes) (es : Entries) → Comes img U.Value o vs → Comes img U.Inode p es → {m : M.Node} → node_with img n vs es ≡ m
-    → Shows img r (applied (delta_meant img d) m)
-after img d n r f a b vs es u v e = record {
-  attributes = on_attributes img (attr_of d) vs;
-  entries = on_entries (change_meant img d) es;
-  is = f img vs es ∙ ap (λ (x : M.Node). applied (delta_meant img d) x) e;
-  attributes_come = a.makes img vs u;
-  entries_come = b.makes img es v;
+pub with-delta : (d : NodeDelta) (n r : Folded) → AppliesNode d n.node r.node → AttributesAfter d n.attributes r.attributes
+    → EntriesAfter d n.entries r.entries → WithDelta d n r
+with-delta d n r f a b = record {
+  makes = λ img m h. record {
+    attributes = on_attributes img (attr_of d) h.attributes;
+    entries = on_entries (change_meant img d) h.entries;
+    is = f img h.attributes h.entries ∙ ap (λ (x : M.Node). applied (delta_meant img d) x) h.is;
+    attributes_come = a.makes img h.attributes h.attributes_come;
+    entries_come = b.makes img h.entries h.entries_come;
+  };
 }
 
 module _ (d : NodeDelta) (n : Folded) (t : FileType) {b : Bool} (s : (img : List ℕ) → b ≡ same_kind (changed_kind (change_meant img d)) (kind_meant t))
@@ -86,11 +86,8 @@ module _ (d : NodeDelta) (n : Folded) (t : FileType) {b : Bool} (s : (img : List
   same-told : {img : List ℕ} {m : M.Node} → Shows img n m → same_kind (changed_kind (change_meant img d)) (kind_of m.body) ≡ b
   same-told {img} {m} h = rw (← (shows-kind h), ← (k img)) (sym (s img))
 
-  pub delta-applied : (r : Folded) → AppliesNode d n.node r.node → AttributesAfter d n.attributes r.attributes → EntriesAfter d n.entries r.entries → b ≡ true
-      → FoldsDelta d n r
-  delta-applied r f u v e = record {
-    makes = λ img m h. rw (same-told h, e) (after img d n.node r f u v h.attributes h.entries h.attributes_come h.entries_come h.is);
-  }
+  pub delta-applied : (r : Folded) → WithDelta d n r → b ≡ true → FoldsDelta d n r
+  delta-applied r w e = record { makes = λ img m h. rw (same-told h, e) (w.makes img m h) }
 
   pub delta-other : b ≡ false → FoldsDelta d n n
   delta-other e = record { makes = λ img m h. rw (same-told h, e) h }
@@ -103,14 +100,15 @@ record-on {d} {n} {r} f = record { makes = go }
     go img None h = absurd h
     go img (Some m) h = f.makes img m h
 
-pub record-first : (d : NodeDelta) (n : Node) (r : Folded) → FirstNode d n → AppliesNode d n r.node → AttributesAfter d From.Nothing r.attributes
-    → EntriesAfter d From.Nothing r.entries
-    → FoldsRecord (E.Node d) None (Some r)
+pub record-first : (d : NodeDelta) (n : Node) (r : Folded) → FirstNode d n
+    → WithDelta d (record { node = n; attributes = From.Nothing; entries = From.Nothing }) r → FoldsRecord (E.Node d) None (Some r)
 unfolding fold_record
-record-first d n r g f u v = record { makes = go }
+record-first d n r g w = record { makes = go }
   where
     go : (img : List ℕ) (m : Option M.Node) → ShowsIf img None m → ShowsIf img (Some r) (fold_record usual (delta (delta_meant img d)) m)
-    go img None h = after img d n r f u v (empty by_bytes) (empty by_bytes) refl refl (g img)
+    go img None h =
+        w.makes img _
+        (record { attributes = empty by_bytes; entries = empty by_bytes; is = g img; attributes_come = refl; entries_come = refl })
     go img (Some m) h = absurd h
 
 pub record-gone : (o : Option Folded) → FoldsRecord E.Tombstone o None

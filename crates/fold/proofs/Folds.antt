@@ -18,6 +18,7 @@ use Rattle.rules.specs.Starts.{Placed, attributes_at, entries_at, changes_at, ad
 use Rattle.rules.specs.PlacedStacks.{unplaced, unplaced_node}
 use Rattle.rules.proofs.MapValues.{map_values, map-empty}
 use Rattle.rules.proofs.Folded.{folded}
+use Rattle.rules.proofs.Laws.{same_kind_lem, kind-on, kind-first}
 use Rattle.image.specs.FileTypes.{kind_meant}
 use Rattle.image.specs.declared.kind.FileType.{FileType}
 use Rattle.merge.specs.Pile.{merged, itself}
@@ -28,42 +29,6 @@ use Rattle.gather.specs.declared.gather.Listing.TheVariants as L
 use Rattle.apply.specs.Folded.{on_entries}
 use Rattle.fold.specs.Lists.{valued, inoded, merges}
 use Rattle.fold.proofs.Forgetting.{changes-forget, values-forget, added-forget, removed-forget, entries-forget}
-
--- ---- kinds
-
-on-kind : (c : Change) (b : Body) → kind_of (on_body c b) ≡ kind_of b
-on-kind (directory p a r) (directory q es) = refl
-on-kind (directory p a r) (file size) = refl
-on-kind (directory p a r) (symlink target) = refl
-on-kind (directory p a r) (special device) = refl
-on-kind (file n) (directory q es) = refl
-on-kind (file n) (file size) = refl
-on-kind (file n) (symlink target) = refl
-on-kind (file n) (special device) = refl
-on-kind (symlink t) (directory q es) = refl
-on-kind (symlink t) (file size) = refl
-on-kind (symlink t) (symlink target) = refl
-on-kind (symlink t) (special device) = refl
-on-kind (special s device) b = refl
-
-first_kind : (c : Change) → kind_of (first_body c) ≡ changed_kind c
-first_kind (directory p a r) = refl
-first_kind (file n) = refl
-first_kind (symlink t) = refl
-first_kind (special pipe device) = refl
-first_kind (special character device) = refl
-first_kind (special block device) = refl
-first_kind (special socket device) = refl
-
-same_self : (k : Kind) → same_kind k k ≡ true
-unfolding same_kind
-same_self directory = refl
-same_self file = refl
-same_self symlink = refl
-same_self (special pipe) = refl
-same_self (special character) = refl
-same_self (special block) = refl
-same_self (special socket) = refl
 
 -- ---- one delta
 
@@ -131,10 +96,10 @@ attributes-fold t (r ∷ rs) b m h k = go r.held (folded usual (unplaced rs) (un
     go tombstone o e h ih = gone h
     go (delta d) None e h ih =
         let z : applied d (first_node usual d.change) ≡ m = cc in
-        let kind : kind_meant t ≡ changed_kind d.change = k ∙ ap (λ (x : M.Node). kind_of x.body) (sym z) ∙ on-kind d.change (first_body d.change)
-        ∙ first_kind d.change in
+        let kind : kind_meant t ≡ changed_kind d.change = k ∙ ap (λ (x : M.Node). kind_of x.body) (sym z) ∙ kind-on d.change (first_body d.change)
+        ∙ kind-first d.change in
         let none = no_node L.Attributes (Some t) rs b e in
-        rw (kind, same_self (changed_kind d.change), none, alter-fold r.place d.fields d.fields.attributes [], map-empty by_bytes valued)
+        rw (kind, same_kind_lem _ (changed_kind d.change) refl, none, alter-fold r.place d.fields d.fields.attributes [], map-empty by_bytes valued)
         (ap (λ (x : M.Node). x.meta.attributes) z)
     go (delta d) (Some n) e h ih = test (same_kind (changed_kind d.change) (kind_of n.body)) refl (ih n e)
       where
@@ -143,7 +108,7 @@ attributes-fold t (r ∷ rs) b m h k = go r.held (folded usual (unplaced rs) (un
             → map_values by_bytes valued (merges (delta_pile L.Attributes (Some t) r.place d ++ below)) ≡ m.meta.attributes
         test true q ih =
             let z : applied d n ≡ m = let y = rw q at h in cc in
-            let kind : kind_meant t ≡ kind_of n.body = k ∙ ap (λ (x : M.Node). kind_of x.body) (sym z) ∙ on-kind d.change n.body in
+            let kind : kind_meant t ≡ kind_of n.body = k ∙ ap (λ (x : M.Node). kind_of x.body) (sym z) ∙ kind-on d.change n.body in
             rw (kind, q, alter-fold r.place d.fields d.fields.attributes below, ih kind) (ap (λ (x : M.Node). x.meta.attributes) z)
         test false q ih =
             let z : n ≡ m = let y = rw q at h in cc in
@@ -220,7 +185,7 @@ entries-fold of (r ∷ rs) b m h k = go r.held (folded usual (unplaced rs) (unpl
             → map_values by_bytes inoded (merges (change_pile r.place d.fields d.change ++ below)) ≡ entries_in m.body
         test true q ih =
             let z : applied d n ≡ m = let y = rw q at h in cc in
-            let kind : kind_of n.body ≡ directory = sym (on-kind d.change n.body) ∙ ap (λ (x : M.Node). kind_of x.body) z ∙ k in
+            let kind : kind_of n.body ≡ directory = sym (kind-on d.change n.body) ∙ ap (λ (x : M.Node). kind_of x.body) z ∙ k in
             change-fold r.place d.fields d.change below ∙ ap (on_entries d.change) (ih kind) ∙ on-entries d.change n.body q kind
             ∙ ap (λ (x : M.Node). entries_in x.body) z
         test false q ih =

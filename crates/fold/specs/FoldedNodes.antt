@@ -81,6 +81,10 @@ ShowsIf img (Some f) (Some m) = Shows img f m
 pub record FoldsBase (o : Option Node) (r : Option Folded) : Type 0 where
   pub makes : (img : List ℕ) (p : Option ℕ) → BaseIs img p o → ShowsIf img r (unplaced_node (node_at img p))
 
+-- a delta applied
+pub record WithDelta (d : NodeDelta) (f r : Folded) : Type 0 where
+  pub makes : (img : List ℕ) (m : M.Node) → Shows img f m → Shows img r (applied (delta_meant img d) m)
+
 -- "Delta of the node's kind: applied. Other kind: nothing."
 pub record FoldsDelta (d : NodeDelta) (f r : Folded) : Type 0 where
   pub makes : (img : List ℕ) (m : M.Node) → Shows img f m

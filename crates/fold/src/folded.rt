@@ -2,12 +2,12 @@
 ghost use Rattle.std.specs.Prelude.{◌≡◌};
 ghost use Rattle.wire.specs.Put.{Put};
 ghost use Rattle.fold.specs.Lists.{merged_bytes};
-ghost use Rattle.fold.specs.FoldedNodes.{AttributesAfter, EntriesAfter, FoldsDelta, StartsNode, FoldsRecord, entries_from, FoldsBase};
+ghost use Rattle.fold.specs.FoldedNodes.{AttributesAfter, EntriesAfter, WithDelta, FoldsDelta, StartsNode, FoldsRecord, entries_from, FoldsBase};
 ghost use Rattle.fold.specs.FoldedNodes.{ShowsIf, folded_in, FoldsTo, origin_bytes, PutsBody, bytes_if};
 
 use crate::list::put_merged;
 use apply::node::{apply_to_node, initial_node};
-use deltas::delta::{EntryDelta, NodeDelta, attr_delta};
+use deltas::delta::{EntryDelta, NodeDelta};
 use gather::gather::{Listing, of_type};
 use image::kind::FileType;
 use nodes::node::{Node, NodeKind};
@@ -18,7 +18,7 @@ use wire::part::Part;
 use wire::put::put_part;
 use writers::write_attr::put_inode_meta;
 
-// Where a list of a folded node comes from.
+// Where a list of a folded node comes from. Not overlay's `NewList`: there rows of one list change, here a stack's lists are merged.
 #[derive(Clone, Copy)]
 pub enum Origin {
     // it is that of the base node, as it stands in the image
@@ -41,7 +41,7 @@ pub struct Folded {
 fn attributes_after(delta: NodeDelta, origin: Origin) -> Origin
     ensures { AttributesAfter delta origin result }
 {
-    match attr_delta(delta).xattrs {
+    match delta.attr_delta().xattrs {
         Some(_) => Origin::Merged,
         None => origin,
     }
@@ -57,16 +57,23 @@ fn entries_after(delta: NodeDelta, origin: Origin) -> Origin
     }
 }
 
+// A delta applied, whatever its kind.
+fn with_delta(delta: NodeDelta, below: Folded) -> Folded
+    ensures { WithDelta delta below result }
+{
+    Folded {
+        node: apply_to_node(delta, below.node),
+        attributes: attributes_after(delta, below.attributes),
+        entries: entries_after(delta, below.entries),
+    }
+}
+
 // A delta of the node's kind is applied; one of another kind does nothing.
 fn fold_delta(delta: NodeDelta, below: Folded) -> Folded
     ensures { FoldsDelta delta below result }
 {
     if of_type(delta, below.node.kind.file_type()) {
-        return Folded {
-            node: apply_to_node(delta, below.node),
-            attributes: attributes_after(delta, below.attributes),
-            entries: entries_after(delta, below.entries),
-        };
+        return with_delta(delta, below);
     }
     below
 }
@@ -75,11 +82,12 @@ fn fold_delta(delta: NodeDelta, below: Folded) -> Folded
 fn start_node(delta: NodeDelta) -> Folded
     ensures { StartsNode delta result }
 {
-    Folded {
-        node: apply_to_node(delta, initial_node(delta)),
-        attributes: attributes_after(delta, Origin::Nothing),
-        entries: entries_after(delta, Origin::Nothing),
-    }
+    let first = Folded {
+        node: initial_node(delta),
+        attributes: Origin::Nothing,
+        entries: Origin::Nothing,
+    };
+    with_delta(delta, first)
 }
 
 // A tombstone clears.
@@ -99,10 +107,7 @@ fn fold_record(entry: EntryDelta, below: Option<Folded>) -> Option<Folded>
 fn entries_in(kind: NodeKind) -> Origin
     ensures { result ≡ entries_from kind }
 {
-    match kind {
-        NodeKind::Directory { parent: _, entries } => Origin::Base(entries),
-        _ => Origin::Nothing,
-    }
+    kind.entries().map_or(Origin::Nothing, Origin::Base)
 }
 
 // The base node, if there is one, with its lists as they stand.
@@ -116,7 +121,8 @@ fn fold_base(base: Option<Node>) -> Option<Folded>
     })
 }
 
-// From the bottom: the base node, and what each record makes of it.
+// From the bottom: the base node, and what each record makes of it. `shown_attr` of crate `layers` is the other fold from the bottom. No trait
+// for the two: each has one use.
 pub fn folded_node(stack: Stack) -> Option<Folded>
     ensures { ShowsIf stack.entry.img.now result (folded_in stack.entry) }
 {

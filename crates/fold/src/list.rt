@@ -25,7 +25,8 @@ fn put_row(buf: &mut [u8], at: usize, img: &[u8], row: Row, listing: Listing) ->
     }
 }
 
-// Writes the rows that the sources give, and counts them. That a number holds their count is a clause of this and the next two alone: a type for it
+// Writes the rows that the sources give, and counts them. Not one with meld's `put_rows`: its contract would have to say any iterator's items.
+// That a number holds their count is a clause of this and the next two alone: a type for it
 // would be made in one place and taken apart in three.
 fn put_rows(buf: &mut [u8], at: usize, all: Sources, listing: Listing) -> Written
     requires { length (given_in all) ≤ edge }
@@ -45,19 +46,18 @@ fn measure_list(at: usize, all: Sources, listing: Listing) -> usize
     requires { length (given_in all) ≤ edge }
     ensures { result ≡ min (at + length (list_given listing (given_in all.entry))) edge }
 {
-    let mut none = [0u8; 0];
-    let rows = put_rows(&mut none, 0, all, listing);
-    let first = put_number(&mut none, at, rows.count);
+    let rows = put_rows(&mut [], 0, all, listing);
+    let first = put_number(&mut [], at, rows.count);
     advance(first, rows.end)
 }
 
 // Writes the rows that the sources give, their count first. The rows come first, after one byte for the count; if it takes more, they are
-// written again.
+// written again. Not by `put_counted`: that goes over the sources twice, this once while the count takes one byte.
 fn put_list(buf: &mut [u8], at: usize, all: Sources, listing: Listing) -> usize
     requires { length (given_in all) ≤ edge }
     ensures { Put buf.old at (list_given listing (given_in all.entry)) result buf.new }
 {
-    if buf.len() == 0 {
+    if buf.is_empty() {
         return measure_list(at, all, listing);
     }
     let rows = put_rows(buf, advance(at, 1), all, listing);

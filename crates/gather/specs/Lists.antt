@@ -7,7 +7,7 @@ use Rattle.deltas.specs.declared.delta.NodeDelta.{NodeDelta}
 use Rattle.deltas.specs.declared.delta.NodeDelta.TheVariants as D
 use Rattle.nodes.specs.declared.node.Node.{Node}
 use Rattle.nodes.specs.declared.node.NodeKind.{NodeKind}
-use Rattle.nodes.specs.declared.node.NodeKind.TheVariants as K
+use Rattle.nodes.specs.Nodes.{entries_in}
 use Rattle.deltas.specs.Deltas.{attr_of, change_meant}
 use Rattle.rules.specs.Fold.{same_kind}
 use Rattle.image.specs.FileTypes.{kind_meant}
@@ -42,13 +42,7 @@ module _ (img : List ℕ) where
 
   -- "Last, a base directory's entries"
   abbrev pub entry_lists : NodeKind → List (List Decided)
-  entry_lists (K.Directory parent es) = list_rows img U.Inode es.start ∷ []
-  entry_lists (K.File size) = []
-  entry_lists (K.Symlink t) = []
-  entry_lists K.Fifo = []
-  entry_lists (K.CharDevice rdev) = []
-  entry_lists (K.BlockDevice rdev) = []
-  entry_lists K.Socket = []
+  entry_lists k = lists_if img U.Inode (entries_in k)
 
   abbrev pub node_lists : Listing → Node → List (List Decided)
   node_lists L.Entries n = entry_lists n.kind

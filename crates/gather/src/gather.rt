@@ -5,19 +5,20 @@ ghost use Rattle.deltas.specs.Deltas.{change_meant};
 ghost use Rattle.rules.specs.Fold.{same_kind};
 ghost use Rattle.image.specs.FileTypes.{kind_meant};
 ghost use Rattle.merge.specs.Merges.{rows_in};
-ghost use Rattle.gather.specs.Lists.{is_of, change_lists, alter_lists, delta_lists, entry_lists, node_lists, base_lists};
+ghost use Rattle.gather.specs.Lists.{is_of, change_lists, alter_lists, delta_lists, node_lists, base_lists};
 ghost use Rattle.gather.specs.Gathers.{GathersLists, Gathers};
 
-use deltas::delta::{EntryDelta, NodeDelta, attr_delta};
+use deltas::delta::{EntryDelta, NodeDelta};
 use image::kind::FileType;
 use image::name::Under;
-use merge::merge::{AtMostTwo, list_if, no_lists, push_lists};
+use merge::merge::{AtMostTwo, list_if};
 use merge::read::source_at;
 use merge::sources::{Lists, Sources};
-use nodes::node::{Node, NodeKind};
+use nodes::node::Node;
 use stack::stack::Stack;
 
-// The names of a directory's entries, or those of the attributes.
+// The names of a directory's entries, or those of the attributes. The type (`of`) is a parameter beside it: crate `rows` lists without
+// one; in `Attributes`, three functions there would have to require that there is none.
 #[derive(Clone, Copy)]
 pub enum Listing {
     Entries,
@@ -35,10 +36,7 @@ pub fn of_type(delta: NodeDelta, file_type: FileType) -> bool
 fn is_of(delta: NodeDelta, of: Option<FileType>) -> bool
     ensures { (img : List ℕ) → result ≡ is_of of (change_meant img delta) }
 {
-    match of {
-        Some(file_type) => of_type(delta, file_type),
-        None => true,
-    }
+    of.is_none_or(|file_type| of_type(delta, file_type))
 }
 
 // What a directory delta adds is over what it removes.
@@ -58,7 +56,7 @@ fn attribute_lists(img: &[u8], delta: NodeDelta, of: Option<FileType>) -> AtMost
     ensures { rows_in img.now result ≡ alter_lists img.now of delta }
 {
     if is_of(delta, of) {
-        return list_if(img, attr_delta(delta).xattrs, Under::Change);
+        return list_if(img, delta.attr_delta().xattrs, Under::Change);
     }
     AtMostTwo::None
 }
@@ -73,22 +71,11 @@ fn delta_lists(img: &[u8], delta: NodeDelta, listing: Listing, of: Option<FileTy
     }
 }
 
-fn entry_lists(img: &[u8], kind: NodeKind) -> AtMostTwo
-    ensures { rows_in img.now result ≡ entry_lists img.now kind }
-{
-    match kind {
-        NodeKind::Directory { parent: _, entries } => {
-            AtMostTwo::One(source_at(img, entries.start, Under::Inode))
-        }
-        _ => AtMostTwo::None,
-    }
-}
-
 fn node_lists(img: &[u8], node: Node, listing: Listing) -> AtMostTwo
     ensures { rows_in img.now result ≡ node_lists img.now listing node }
 {
     match listing {
-        Listing::Entries => entry_lists(img, node.kind),
+        Listing::Entries => list_if(img, node.kind.entries(), Under::Inode),
         Listing::Attributes => {
             AtMostTwo::One(source_at(img, node.meta.xattrs.start, Under::Value))
         }
@@ -98,10 +85,7 @@ fn node_lists(img: &[u8], node: Node, listing: Listing) -> AtMostTwo
 fn base_lists(img: &[u8], base: Option<Node>, listing: Listing) -> AtMostTwo
     ensures { rows_in img.now result ≡ base_lists img.now listing base }
 {
-    match base {
-        Some(node) => node_lists(img, node, listing),
-        None => AtMostTwo::None,
-    }
+    base.map_or(AtMostTwo::None, |node| node_lists(img, node, listing))
 }
 
 // The lists of a stack; where a type is given, without the attribute changes of deltas of another. A tombstone clears: nothing below it is
@@ -110,14 +94,14 @@ fn base_lists(img: &[u8], base: Option<Node>, listing: Listing) -> AtMostTwo
 fn gather_lists(stack: Stack, listing: Listing, of: Option<FileType>) -> Lists
     ensures { GathersLists stack.entry listing of result }
 {
-    let mut all = no_lists();
+    let mut all = Lists::new();
     for i in (0..stack.places.count).rev() {
         let EntryDelta::Node(delta) = stack.record(i) else {
             return all;
         };
-        push_lists(&mut all, delta_lists(stack.img, delta, listing, of));
+        all.push(delta_lists(stack.img, delta, listing, of));
     }
-    push_lists(&mut all, base_lists(stack.img, stack.base(), listing));
+    all.push(base_lists(stack.img, stack.base(), listing));
     all
 }
 
@@ -125,10 +109,8 @@ fn gather_lists(stack: Stack, listing: Listing, of: Option<FileType>) -> Lists
 pub fn gather_sources(stack: Stack, listing: Listing, of: Option<FileType>) -> Sources
     ensures { Gathers stack.entry listing of result }
 {
-    let Lists { rows, count } = gather_lists(stack, listing, of);
     Sources {
         img: stack.img,
-        rows,
-        count,
+        lists: gather_lists(stack, listing, of),
     }
 }

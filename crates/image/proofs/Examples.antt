@@ -34,7 +34,7 @@ P1 = image-of (alone (empty by_number)) _ (omega arith) refl
 
 -- P2: without its last byte it has ended
 P2 : read_image (0 ∷ 0 ∷ 0 ∷ 1 ∷ 0 ∷ 0 ∷ []) ≡ fault Ended
-P2 = cut-image (0 ∷ 0 ∷ 0 ∷ 1 ∷ 0 ∷ 0 ∷ []) (0 ∷ []) _ P1 (λ e. let z : ◌≡◌ {A = ℕ} 0 1 = cc in omega arith)
+P2 = cut-image (0 ∷ 0 ∷ 0 ∷ 1 ∷ 0 ∷ 0 ∷ []) (0 ∷ []) _ P1 (λ e. cc)
 
 abbrev root_node : Node
 root_node = record {

@@ -10,7 +10,7 @@ use lib.Seq.{drop-drop, drop-append_seam}
 use Rattle.std.specs.declared.cmp.Ordering.{Ordering}
 use Rattle.std.specs.declared.cmp.Ordering.TheVariants.{Less, Equal, Greater}
 use Rattle.wire.specs.declared.fault.Fault.TheVariants.{Malformed}
-use Rattle.wire.specs.Parse.{Parsed, got, bind, check, never-got, bind_inv, check_inv}
+use Rattle.wire.specs.Parse.{Parsed, got, bind, check, bind_inv, check_inv}
 use Rattle.wire.specs.Codec.{Codec, OneForm}
 use Rattle.wire.specs.Combinators.{only}
 use Rattle.wire.specs.Order.{Order}
@@ -19,6 +19,7 @@ use Rattle.wire.specs.Maps.{Map, get, as_map, rows-as_map}
 use Rattle.wire.specs.Number.{number_read, number_to}
 use Rattle.wire.specs.Lists.{after, row, rows, rising, rising-read, mapped, last_count}
 use Rattle.wire.proofs.NumberForms.{number_to-one}
+use Rattle.wire.proofs.ListForms.{mapped-inv}
 use Rattle.image.specs.Places.{if_read, rows_from, place_under, place_in, Holds}
 
 -- the end of an image
@@ -79,14 +80,10 @@ module _ {K A : Type 0} (O : Order K) (key : Codec K) (value : Codec A) (img : L
         valued = j.2 ∙ (λ x. got (eb x) (eq x));
       }
 
-  mapped-is : (o : Option (Map O A)) (q : List ℕ) {m : Map O A} {r : List ℕ} → mapped O key value last_count refl o q ≡ got m r → o ≡ Some m
-  mapped-is None q e = never-got e
-  mapped-is (Some x) q e = cc
-
   none-holds : (s : List ℕ) (l : List (K × A)) → [] ≡ l → Holds img value.read (place_under O key value (length img) k 0 s) (lookup O k l)
   unfolding place_under lookup
   none-holds s [] e = tt
-  none-holds s (x ∷ l) e = absurd (let z : ◌≡◌ {A = ℕ} 0 1 = cc in omega arith)
+  none-holds s (x ∷ l) e = cc
 
   module _ (one_key : OneForm key) (one_value : OneForm value) where
     row-holds : (n : ℕ) (s : List ℕ) (e : K × A) (t : List ℕ) (l : List (K × A)) → Suffix img s → Row s e t
@@ -117,7 +114,7 @@ module _ {K A : Type 0} (O : Order K) (key : Codec K) (value : Codec A) (img : L
     list-holds n {m} {r} h d =
         let i = bind_inv ((rows O key value last_count refl).read (drop n img)) (λ l t. mapped O key value last_count refl (as_map O l) t) d in
         let j = bind_inv (number_read last_count (drop n img)) (λ c t. rows_from O key value c None t) i.2 in
-        let e : m.rows ≡ i.0 = rows-as_map O i.0 m (mapped-is (as_map O i.0) i.1 i.3) in
+        let e : m.rows ≡ i.0 = rows-as_map O i.0 m (mapped-inv O key value last_count refl (as_map O i.0) i.1 i.3).0 in
         let u = suffix-rest (number_to last_count refl) (number_to-one last_count refl) (suffix-drop img n h) j.2 in
         let p : place_in O key value img k n ≡ place_under O key value (length img) k j.0 j.1 =
         ap (λ (o : Parsed ℕ). if_read o (λ c t. place_under O key value (length img) k c t)) j.2 in

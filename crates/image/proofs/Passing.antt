@@ -13,7 +13,7 @@ use Rattle.wire.specs.declared.fault.Fault.{Fault}
 use Rattle.wire.specs.Parse.{Parsed, fault, got, bind, never-got}
 use Rattle.wire.specs.Codec.{Codec, OneForm}
 use Rattle.wire.specs.Combinators.{only, opt-read}
-use Rattle.wire.specs.Number.{edge, number_read}
+use Rattle.wire.specs.Number.{edge}
 use Rattle.wire.specs.Order.{Order}
 use Rattle.wire.specs.Maps.{Map, as_map-rows}
 use Rattle.wire.specs.Lists.{after, row, rows, rising, rising-read}
@@ -21,6 +21,8 @@ use Rattle.wire.specs.Reading.{Reads, ReadsPart, part}
 use Rattle.wire.proofs.ListForms.{rows-one, all-rising}
 use Rattle.wire.proofs.Readers.{number-most, read-in, handed}
 use Rattle.image.specs.Places.{passed, Ends, rows_from, last_of}
+use Rattle.image.specs.Rows.{ReadsRows, counted}
+use Rattle.image.specs.declared.rows.Rows.{Rows}
 
 module _ {A : Type 0} {img : List ℕ} {p : List ℕ → Parsed A} {at : ℕ} where
   -- what was read was passed
@@ -172,17 +174,16 @@ module _ {K A : Type 0} (O : Order K) (key : Codec K) (value : Codec A) where
         rw (e, as_map-rows O m)
 
     -- the count, and the rows after it
-    pub ends-list : {img : List ℕ} {at m n : ℕ} {o : Result (ℕ × ℕ) Fault} {r : Result ℕ Fault} → Reads img (number_read most) at o → o ≡ Ok (n, m)
-        → Ends img (rows_from O key value n None) m r → Ends img (rising O key value most limit).read at r
+    pub ends-list : {img : List ℕ} {at : ℕ} {o : Result Rows Fault} {list : Rows} {r : Result ℕ Fault} → ReadsRows img most at o → o ≡ Ok list
+        → Ends img (rows_from O key value list.count None) list.first r → Ends img (rising O key value most limit).read at r
     ends-list {img} {at} h d g =
-        let i : Ends img (rows O key value most limit).read at _ = ends-chosen (λ n r. rows_from O key value n None r) h d g in
+        let i : Ends img (rows O key value most limit).read at _ = ends-chosen (λ n r. rows_from O key value n None r) h (ap counted d) g in
         record { same = rising-passed (drop at img) ((rows O key value most limit).read (drop at img)) refl ∙ i.same; within = i.within }
 
-    pub ends-unlisted : {img : List ℕ} {at : ℕ} {o : Result (ℕ × ℕ) Fault} {r : Result ℕ Fault} {f : Fault} → Reads img (number_read most) at o → o ≡ Err f →
-        r ≡ Err f
+    pub ends-unlisted : {img : List ℕ} {at : ℕ} {o : Result Rows Fault} {r : Result ℕ Fault} {f : Fault} → ReadsRows img most at o → o ≡ Err f → r ≡ Err f
         → Ends img (rising O key value most limit).read at r
     ends-unlisted {img} {at} h d e =
-        let i : Ends img (rows O key value most limit).read at _ = ends-unchosen (λ n r. rows_from O key value n None r) h d e in
+        let i : Ends img (rows O key value most limit).read at _ = ends-unchosen (λ n r. rows_from O key value n None r) h (ap counted d) e in
         record { same = rising-passed (drop at img) ((rows O key value most limit).read (drop at img)) refl ∙ i.same; within = i.within }
 
 last-passed : {K A : Type 0} (prev : Option K) {last : Option K} (o : Parsed (List (K × A))) {r : List ℕ} → last_of prev o ≡ got last r → passed o ≡ got tt r

@@ -127,7 +127,7 @@ below-every (b ∷ bs) n h = go (ltb b.id n) refl h (below-every bs n)
     go : (t : Bool) → ltb b.id n ≡ t → cond t (ids_below bs n) false ≡ true → (ids_below bs n ≡ true → Every (λ b. b.id < n) bs)
         → Every (λ b. b.id < n) (b ∷ bs)
     go true e h rest = (ltb-true b.id n e, rest h)
-    go false e h rest = absurd (let z : ◌≡◌ {A = ℕ} 0 1 = cc in omega arith)
+    go false e h rest = cc
 
 -- next id, judged by the ids as soon as it is read
 abbrev pub next_id : List Batch → Codec ℕ

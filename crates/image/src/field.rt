@@ -21,11 +21,17 @@ pub const LAST_WORD: u64 = u32::MAX as u64;
 // The largest size.
 pub const LAST_SIZE: u64 = i64::MAX as u64;
 
-// The most bytes of a link's target, and of an attribute's value.
+// The largest mask of a record's nine fields.
+pub const LAST_MASK: u64 = 511;
+
+// The most bytes of a name, of a link's target, and of an attribute's value.
+pub const LAST_NAME: u64 = 255;
+
 pub const LAST_TARGET: u64 = 4095;
 
 pub const LAST_VALUE: u64 = 4096;
 
+// Passes a number.
 pub fn pass_number(img: &[u8], at: usize, most: u64) -> Result<usize, Fault>
     ensures { Ends img.now (number_read most) at result }
 {
@@ -33,6 +39,7 @@ pub fn pass_number(img: &[u8], at: usize, most: u64) -> Result<usize, Fault>
     Ok(next)
 }
 
+// Passes a text.
 pub fn pass_text(img: &[u8], at: usize, least: u64, most: u64) -> Result<usize, Fault>
     ensures { Ends img.now (text-read least most) at result }
 {
@@ -40,6 +47,7 @@ pub fn pass_text(img: &[u8], at: usize, least: u64, most: u64) -> Result<usize, 
     Ok(next)
 }
 
+// Passes a time.
 #[tactic(auto, using(crate::proofs::Passing::passes), unfolding(wire::specs::Time::time))]
 pub fn pass_time(img: &[u8], at: usize) -> Result<usize, Fault>
     ensures { Ends img.now time.read at result }
@@ -48,7 +56,8 @@ pub fn pass_time(img: &[u8], at: usize) -> Result<usize, Fault>
     pass_number(img, nanos, LAST_NANO)
 }
 
-// A field as the layout has it.
+// A field as the layout has it. Each is a type of its own, by the layout's name for it: a const parameter for the limit, tried for `Inode` and
+// `Size`, wants a proof of its bound in each `layout`, and says a number where now a name stands.
 pub trait Field {
     ghost Said: { Type 0 };
 
@@ -137,7 +146,8 @@ impl Field for XattrValue {
     }
 }
 
-// A field that is there if the bit is 1.
+// A field that is there if the bit is 1. The bit is a number and no `bool`: the layout of a mask halves the number that the bits are, and so do its
+// laws. The place in the image, here and below, as in `pass_under`.
 #[tactic(auto, using(crate::proofs::Passing::passes))]
 pub fn pass_if<F: Field>(img: &[u8], at: usize, bit: u64) -> Result<usize, Fault>
     requires { (bit ≤ 1) × (at ≤ length img.now) }

@@ -1,5 +1,5 @@
 // The kinds of nodes, and the number and letter of each.
-ghost use Rattle.std.specs.Prelude.{◌≤◌, ◌≡◌};
+ghost use Rattle.std.specs.Prelude.{◌+◌, ◌≤◌, ◌≡◌};
 ghost use Rattle.wire.specs.Reading.{Reads, meant};
 ghost use Rattle.image.specs.Meaning.{kind_number};
 ghost use Rattle.image.specs.KindLayout.{kind, code};
@@ -28,6 +28,13 @@ impl FileType {
         ensures { (result ≡ kind_number (kind_meant self)) × (result ≤ 6) }
     {
         self as u64
+    }
+
+    // Its code in a record, whose 0 is a tombstone.
+    pub fn code(self) -> u64
+        ensures { (result ≡ kind_number (kind_meant self) + 1) × (result ≤ 7) }
+    {
+        self.number() + 1
     }
 
     // The letter that a listing shows for it.
@@ -89,7 +96,7 @@ impl TryFrom<u64> for FileType {
     }
 }
 
-// The kind at `at`, and the place after it.
+// The kind at `at`, and the place after it. Beside `read_reason` (survey): what the number means is another law in each.
 #[tactic(auto, unfolding(crate::specs::KindLayout::kind))]
 pub fn read_file_type(img: &[u8], at: usize) -> Result<(FileType, usize), Fault>
     ensures { Reads img.now kind.read at (meant kind_meant result) }

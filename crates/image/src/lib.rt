@@ -1,4 +1,4 @@
-// The layout of the image: readers that judge and pass over each construct, and what is gathered on the way.
+// The layout of the image: what judges and passes over its fields, kinds and lists by name.
 #![tactic(auto)]
 
 pub mod field;

@@ -9,11 +9,11 @@ ghost use Rattle.image.specs.Meaning.{Changes as ChangesMeant};
 ghost use Rattle.image.specs.RecordLayout.{changes};
 ghost use Rattle.image.specs.Under.{under};
 ghost use Rattle.image.specs.Places.{Ends, name_before, rows_from};
+ghost use Rattle.image.specs.Rows.{ReadsRow};
 
-use crate::field::{Field, Inode, LAST_WORD, XattrValue, pass_maybe};
-use std::cmp::Ordering;
+use crate::field::{Field, Inode, LAST_NAME, LAST_WORD, XattrValue, pass_maybe};
+use crate::rows::{Rows, read_rows};
 use wire::fault::Fault;
-use wire::number::read_number;
 use wire::order::compare_part;
 use wire::part::Part;
 use wire::text::read_text;
@@ -31,7 +31,7 @@ pub enum Under {
 pub fn read_name(img: &[u8], at: usize) -> Result<(Part, usize), Fault>
     ensures { ReadsPart img.now nameText.read at result }
 {
-    read_text(img, at, 1, 255)
+    read_text(img, at, 1, LAST_NAME)
 }
 
 // The name at `at`, which is after the one before it, if there is one, and the place after it. Beside `inode_after` (passes): the two share
@@ -40,19 +40,14 @@ pub fn name_after(img: &[u8], at: usize, before: Option<Part>) -> Result<(Part, 
     ensures { ReadsPart img.now (only (after by_bytes (name_before img.now before)) nameText).read at result }
 {
     let (name, next) = read_name(img, at)?;
-    let Some(last) = before else {
-        return Ok((name, next));
-    };
-    let bytes = name.of(img);
-    match compare_part(img, last, bytes) {
-        Ordering::Less => Ok((name, next)),
-        Ordering::Equal => Err(Fault::Malformed),
-        Ordering::Greater => Err(Fault::Malformed),
+    if before.is_some_and(|last| compare_part(img, last, name.of(img)).is_ge()) {
+        return Err(Fault::Malformed);
     }
+    Ok((name, next))
 }
 
 // Passes what stands under a name. A `match`, no type parameter: a merge has lists of all four sorts in one array, so the sort is a value.
-// That the place is in the image is a clause, here and in the other readers that may read nothing: a type for places would be made and opened
+// That the place is in the image is a clause, here and in the other readers that may read nothing: a type for places would be made and taken apart
 // at each `?`.
 pub fn pass_under(img: &[u8], at: usize, what: Under) -> Result<usize, Fault>
     requires { at ≤ length img.now }
@@ -64,6 +59,23 @@ pub fn pass_under(img: &[u8], at: usize, what: Under) -> Result<usize, Fault>
         Under::Value => XattrValue::pass(img, at),
         Under::Change => pass_maybe::<XattrValue>(img, at),
     }
+}
+
+// A row of a list by name: its name, the place of what stands under the name, and the place after that.
+#[derive(Clone, Copy)]
+pub struct RowRead {
+    pub name: Part,
+    pub under: usize,
+    pub next: usize,
+}
+
+// The row at a place.
+pub fn read_row(img: &[u8], at: usize, what: Under) -> Result<RowRead, Fault>
+    ensures { ReadsRow img.now what at result }
+{
+    let (name, under) = read_name(img, at)?;
+    let next = pass_under(img, under, what)?;
+    Ok(RowRead { name, under, next })
 }
 
 // Changes of attributes, as a delta has them.
@@ -83,20 +95,19 @@ impl Field for Changes {
 pub fn pass_names(img: &[u8], at: usize, what: Under) -> Result<usize, Fault>
     ensures { Ends img.now (rising by_bytes nameText (under what) last_count refl).read at result }
 {
-    let (count, first) = read_number(img, at, LAST_WORD)?;
-    names_from(img, first, count, what)
+    let rows = read_rows(img, at, LAST_WORD)?;
+    pass_rows(img, rows, what)
 }
 
-// Passes `count` rows of a list by name, the first of which is at `first`. Not `find_from` (passes), which compares each key with the one that it
-// looks for.
+// Passes rows of a list by name. Not `find_in` (passes), which compares each key with the one that it looks for.
 #[tactic(auto, using(crate::proofs::Passing::passes_rows))]
-fn names_from(img: &[u8], first: usize, count: u64, what: Under) -> Result<usize, Fault>
-    requires { first ≤ length img.now }
-    ensures { Ends img.now (rows_from by_bytes nameText (under what) count None) first result }
+fn pass_rows(img: &[u8], rows: Rows, what: Under) -> Result<usize, Fault>
+    requires { rows.first ≤ length img.now }
+    ensures { Ends img.now (rows_from by_bytes nameText (under what) rows.count None) rows.first result }
 {
-    let mut here = first;
+    let mut here = rows.first;
     let mut before: Option<Part> = None;
-    for _row in 0..count {
+    for _row in 0..rows.count {
         let (name, named) = name_after(img, here, before)?;
         here = pass_under(img, named, what)?;
         before = Some(name);

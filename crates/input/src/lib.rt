@@ -14,6 +14,7 @@ pub fn fill<R: Read>(reader: &mut R, buf: &mut [u8]) -> io::Result<usize>
     ensures bytes { IfOk result (λ n. Consumes (R.remaining reader.old) (R.remaining reader.new) (take n buf.new)) }
     ensures ended { IfOk result (λ n. n < length buf.new → IsAtEnd (R.remaining reader.new)) }
 {
+    // No library method fills a slice as far as the input goes: `read_exact` fails at its end.
     let mut done = 0;
     while done < buf.len() {
         let read = reader.read(&mut buf[done..])?;

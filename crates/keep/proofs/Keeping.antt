@@ -1,6 +1,10 @@
 -- A list by name in step with the names that lead somewhere below: which rows stay.
 -- Assumes nothing.
-use Rattle.std.specs.Prelude.{None, Option, Some}
+use Rattle.std.specs.Prelude.{None, Option, Some, MatchOption}
+use Rattle.std.specs.Option.{option_copied}
+use Rattle.std.specs.Iterator.Adapters.{peekable_peeked, peekable_source, peekable_steps, PeeksNext}
+use Rattle.std.specs.declared.iter.Ahead.{Ahead}
+use Rattle.std.proofs.Common.{Bor}
 use mathlib.Core.Path.{◌≡◌, refl, sym, ap, ◌∙◌}
 use mathlib.Core.Bool.{Bool, true, false, cond}
 use mathlib.Core.List.{List, [], ◌∷◌, ◌++◌}
@@ -27,25 +31,25 @@ use Rattle.image.specs.FieldLayout.{name}
 use Rattle.image.specs.Under.{UnderName, under}
 use Rattle.image.specs.declared.name.Under as UnderN
 use Rattle.nodes.specs.Options.{text_at}
-use Rattle.image.specs.declared.rows.Rows.{Rows}
 use Rattle.wire.specs.declared.put.Written.{Written}
-use Rattle.writers.proofs.Writing.{part-written}
+use Rattle.writers.proofs.Writing.{part-written, put-nothing}
 use Rattle.rules.specs.Changes.{map_if}
-use Rattle.lookup.specs.Search.{row_name, Standing, list_in, ListRows, ReadsRow}
+use Rattle.lookup.specs.Search.{row_name, Standing, list_in, ListRows, Steps, ReadsRow}
 use Rattle.lookup.specs.declared.list.NameList.{NameList}
-use Rattle.lookup.specs.declared.search.RowRead.{RowRead}
-use Rattle.lookup.proofs.Searching.{list-is, Taken, row-taken}
+use Rattle.image.specs.declared.name.RowRead.{RowRead}
+use Rattle.lookup.specs.declared.rows.NameRows.{NameRows}
+use Rattle.lookup.proofs.Searching.{list-is, Taken, row-taken, row-stepped}
 use Rattle.merge.specs.Pile.{itself}
 use Rattle.merge.specs.Sources.{sources_of}
-use Rattle.merge.specs.Merges.{listed, given_in, given_of_row, Gives, Settles}
+use Rattle.merge.specs.Merges.{listed, given_in, given_of_row, gives_from, Gives}
 use Rattle.merge.specs.declared.sources.Sources.{Sources}
 use Rattle.merge.specs.declared.merge.Row.{Row}
-use Rattle.merge.specs.declared.merge.Merge.{Merge}
 use Rattle.merge.proofs.Piles.{rising-pile}
 use Rattle.change.specs.Cuts.{rows_bytes}
 use Rattle.change.specs.Sections.{between}
 use Rattle.keep.specs.Below.{inode_given}
-use Rattle.keep.specs.Keeps.{keeps, kept_map, kept_bytes, keep_rows, kept_rows, names_of, leads_in, Rises, Sought, Keeps, PutsRow, PutsKept}
+use Rattle.keep.specs.Keeps.{keeps, kept_map, kept_bytes, keep_rows, kept_rows, rows_kept, left_of}
+use Rattle.keep.specs.Keeps.{names_of, leads_in, leads_on, InStep, Sought, Keeps, PutsKept}
 use Rattle.nodes.proofs.OneForm.{by_name-one}
 use Rattle.wire.proofs.OneForm.{then-one}
 use Rattle.image.proofs.OneForm.{name-one, under-one}
@@ -91,60 +95,100 @@ module _ {K A : Type 0} (O : Order K) (p : K → A → Bool) where
 
 -- ---- the names that lead somewhere, up to one
 
--- those of settled sources rise
-pub settled-rises : (all : Sources) (m : Merge) → Settles all m → Rises m
-settled-rises all m s = rw s.gives at (rising-pile by_bytes (itself by_bytes) (sources_of all.img.now (listed all)))
+-- those of sources rise
+pub sources-rise : (all : Sources) → Rising by_bytes (given_in all)
+sources-rise all = rising-pile by_bytes (itself by_bytes) (sources_of all.img.now (listed all))
+
+-- none is asked for at first
+pub step-start : (all : Sources) (n : Ahead Sources Row) → peekable_source n ≡ all → peekable_peeked n ≡ None
+    → InStep all.img.now n × (names_of n ≡ given_in all)
+step-start all n e z = (record { image = rw e; rises = rw (z, e) (sources-rise all) }, rw (z, e))
+
+-- to ask for the next one passes none
+module _ (n v : Ahead Sources Row) (p : PeeksNext Gives n v) where
+  ahead-is : (names_of v ≡ names_of n) × ((peekable_source v).img.now ≡ (peekable_source n).img.now)
+  ahead-is = go (peekable_peeked n) p.1
+    where
+      there : names_of v ≡ gives_from p.0 (peekable_source v)
+      there = rw p.2
+
+      go : (o : Option (Option Row))
+          → MatchOption o (Gives (peekable_source n) p.0 (peekable_source v)) (λ x. (p.0 ≡ x) × (peekable_source v ≡ peekable_source n))
+          → (names_of v ≡ left_of o (peekable_source n)) × ((peekable_source v).img.now ≡ (peekable_source n).img.now)
+      go None g = (there ∙ sym g.gives, g.image)
+      go (Some x) e =
+          (there ∙ ap (λ q. gives_from q (peekable_source v)) e.0 ∙ ap (λ all. gives_from x all) e.1, ap (λ all. all.img.now) e.1)
 
 -- those that are less are passed: what is left leads where it led at first
-pub record Seeking (m₀ : Merge) (k : Text) (m : Merge) : Type 0 where
-  pub rises : Rises m
-  pub same : (j : Text) → (by_bytes.cmp j k ≡ Less → ⊥) → leads_in m j ≡ leads_in m₀ j
+pub record Seeking (img : List ℕ) (n₀ : Ahead Sources Row) (k : Text) (n : Ahead Sources Row) : Type 0 where
+  pub in_step : InStep img n
+  pub same : (j : Text) → (by_bytes.cmp j k ≡ Less → ⊥) → leads_on n j ≡ leads_on n₀ j
 
 not-less : (k : Text) → by_bytes.cmp k k ≡ Less → ⊥
 not-less k z = never-lt _ z (by_bytes.self k)
 
-module _ {m₀ : Merge} {k : Text} {m : Merge} (g : Seeking m₀ k m) where
-  found : {x : Option ℕ} → x ≡ leads_in m k → Sought m₀ k x m
-  found e = record { leads = e ∙ g.same k (not-less k); rises = g.rises; same = g.same }
+module _ {img : List ℕ} {n₀ : Ahead Sources Row} {k : Text} (n v : Ahead Sources Row) (o : Option (Bor Row)) (g : Seeking img n₀ k n) (p : PeeksNext Gives n v)
+    (c : peekable_peeked v ≡ Some (option_copied o)) where
+  ahead : Seeking img n₀ k v
+  ahead =
+      let e = ahead-is n v p in
+      record {
+        in_step = record { image = e.1 ∙ g.in_step.image; rises = rw e.0 g.in_step.rises };
+        same = λ j h. rw e.0 (g.same j h);
+      }
 
-  pub seeking-end : m.first ≡ None → Sought m₀ k None m
+  names : names_of v ≡ gives_from (option_copied o) (peekable_source v)
+  names = rw c
+
+  found : {x : Option ℕ} → x ≡ leads_on v k → Sought img n₀ k x v
+  found e = record { leads = e ∙ ahead.same k (not-less k); in_step = ahead.in_step; same = ahead.same }
+
+  pub seeking-end : o ≡ None → Sought img n₀ k None v
   unfolding lookup
-  seeking-end e = found (rw e)
+  seeking-end e = found (rw (names, e))
 
-  module _ {a : Row} (i : m.first ≡ Some a) {x : Ordering} (d : x ≡ by_bytes.cmp (text_at m.all.img.now a.name) k) where
+  module _ (a : Bor Row) (i : o ≡ Some a) where
+    rows : names_of v ≡ given_of_row img a.now ∷ given_in (peekable_source v)
+    rows = (rw i at names) ∙ ap (λ x. given_of_row x a.now ∷ given_in (peekable_source v)) ahead.in_step.image
+
     abbrev key : Text
-    key = text_at m.all.img.now a.name
+    key = text_at img a.now.name
 
-    rows : names_of m ≡ given_of_row m.all.img.now a ∷ given_in m.all
-    rows = rw i
+    module _ (m : Ahead Sources Row) (r : Option Row) (s : peekable_steps Gives v r m) where
+      source : peekable_source m ≡ peekable_source v
+      source = let t = rw c at s.1 in t.1
 
-    seen : (y : Ordering) → x ≡ y → by_bytes.cmp key k ≡ y
-    seen y t = sym d ∙ t
+      rest : names_of m ≡ given_in (peekable_source v)
+      rest = rw (s.0, source)
 
-    pub seeking-equal : x ≡ Equal → Sought m₀ k (Some a.given.inode) m
-    unfolding lookup
-    seeking-equal t = found (rw (rows, by_bytes.same key k (seen Equal t), by_bytes.self k))
+    module _ {x : Ordering} (d : x ≡ by_bytes.cmp key k) where
+      seen : (y : Ordering) → x ≡ y → by_bytes.cmp key k ≡ y
+      seen y t = sym d ∙ t
 
-    pub seeking-greater : x ≡ Greater → Sought m₀ k None m
-    seeking-greater t =
-        let z = by_bytes.flip key k (seen Greater t) in
-        let u = rw rows at g.rises in
-        let below = under-below by_bytes k key (given_in m.all) z u.0 in
-        found (rw rows (ap (map_if inode_given) (sym (lookup-under by_bytes k (given_of_row m.all.img.now a ∷ given_in m.all) (z, below)))))
-
-    module _ (t : x ≡ Less) {n : Merge} (s : Gives m.all n.first n.all) where
-      one-row : names_of m ≡ given_of_row m.all.img.now a ∷ names_of n
-      one-row = rw (i, s.gives)
-
-      pub seeking-more : Seeking m₀ k n
+      pub seeking-equal : x ≡ Equal → Sought img n₀ k (Some a.now.given.inode) v
       unfolding lookup
-      seeking-more = record { rises = settled-rises m.all n s; same = λ j h. sym (passes j h) ∙ g.same j h }
+      seeking-equal t = found (rw (rows, by_bytes.same key k (seen Equal t), by_bytes.self k))
+
+      pub seeking-greater : x ≡ Greater → Sought img n₀ k None v
+      seeking-greater t =
+          let z = by_bytes.flip key k (seen Greater t) in
+          let u = rw rows at ahead.in_step.rises in
+          let below = under-below by_bytes k key (given_in (peekable_source v)) z u.0 in
+          found (rw rows (ap (map_if inode_given) (sym (lookup-under by_bytes k (given_of_row img a.now ∷ given_in (peekable_source v)) (z, below)))))
+
+      pub seeking-more : x ≡ Less → (m : Ahead Sources Row) (r : Option Row) → peekable_steps Gives v r m → Seeking img n₀ k m
+      unfolding lookup
+      seeking-more t m r s = record {
+        in_step = record { image = ap (λ all. all.img.now) (source m r s) ∙ ahead.in_step.image; rises = rw (rest m r s) (sources-rise (peekable_source v)) };
+        same = λ j h. sym (passes j h) ∙ ahead.same j h;
+      }
         where
-          passes : (j : Text) → (by_bytes.cmp j k ≡ Less → ⊥) → leads_in m j ≡ leads_in n j
-          passes j h = rw one-row (go (by_bytes.cmp j key) refl)
+          passes : (j : Text) → (by_bytes.cmp j k ≡ Less → ⊥) → leads_on v j ≡ leads_on m j
+          passes j h = rw (rows, rest m r s) (go (by_bytes.cmp j key) refl)
             where
               go : (y : Ordering) → by_bytes.cmp j key ≡ y
-                  → map_if inode_given (choose y (Some (given_of_row m.all.img.now a).1) (lookup by_bytes j (names_of n))) ≡ leads_in n j
+                  → map_if inode_given (choose y (Some (given_of_row img a.now).1) (lookup by_bytes j (given_in (peekable_source v))))
+                  ≡ leads_in (peekable_source v) j
               go Less q = refl
               go Greater q = refl
               go Equal q = absurd (h (rw (by_bytes.same j key q) (seen Less t)))
@@ -156,21 +200,48 @@ bytes_of u l = rows_bytes name (under u) l
 
 -- of the rows `all` these are left, from here on
 pub record Progress (img : List ℕ) (u : UnderN.Under) (f : Text → Option ℕ) (old : List ℕ) (at : ℕ) (all : List (Text × UnderName u)) (here left : ℕ)
-    (names : Merge) (buf : List ℕ) (k : Written) : Type 0 where
+    (names : Ahead Sources Row) (buf : List ℕ) (k : Written) : Type 0 where
   pub prev : Option Text
   pub rows : List (Text × UnderName u)
   pub standing : Standing img u prev here left rows
-  pub agree : Every (λ (e : Text × UnderName u). leads_in names e.0 ≡ f e.0) rows
+  pub agree : Every (λ (e : Text × UnderName u). leads_on names e.0 ≡ f e.0) rows
   pub put : (r : ℕ) (new : List ℕ) → Put buf k.end (bytes_of u (kept_rows u f rows)) r new → Put old at (bytes_of u (kept_rows u f all)) r new
   pub counts : k.count + length (kept_rows u f rows) ≡ length (kept_rows u f all)
 
-pub record Keeping (img : List ℕ) (u : UnderN.Under) (f : Text → Option ℕ) (old : List ℕ) (at first total here left : ℕ) (names : Merge)
+pub record Keeping (image img : List ℕ) (u : UnderN.Under) (f : Text → Option ℕ) (old : List ℕ) (at first total here left : ℕ) (names : Ahead Sources Row)
     (buf : List ℕ) (k : Written) : Type 0 where
-  pub rises : Rises names
+  pub in_step : InStep image names
   pub low : k.end ≤ edge
   pub same : length buf ≡ length old
   pub short : length old < edge
   pub kept : (l : List (Text × UnderName u)) → Standing img u None first total l → Progress img u f old at l here left names buf k
+
+-- none is looked at yet
+pub keeping-start : (all : Sources) (n : Ahead Sources Row) → peekable_source n ≡ all → peekable_peeked n ≡ None → {img : List ℕ} {u : UnderN.Under}
+    {old : List ℕ} {at here left total : ℕ}
+    → at ≤ edge → length old < edge → left ≡ total
+    → Keeping all.img.now img u (leads_in all) old at here total here left n old (record { end = at; count = 0 })
+keeping-start all n e z {u = u} low short h =
+    let t = step-start all n e z in
+    record {
+      in_step = t.0;
+      low = low;
+      same = refl;
+      short = short;
+      kept = λ l w. record {
+        prev = None;
+        rows = l;
+        standing = rw h w;
+        agree = agree u (λ k. ap (λ names. map_if inode_given (lookup by_bytes k names)) t.1) l;
+        put = λ r new p. p;
+        counts = omega arith;
+      };
+    }
+  where
+    agree : (u : UnderN.Under) → ((k : Text) → leads_on n k ≡ leads_in all k) → (l : List (Text × UnderName u))
+        → Every (λ (e : Text × UnderName u). leads_on n e.0 ≡ leads_in all e.0) l
+    agree u h [] = tt
+    agree u h (e ∷ l) = (h e.0, agree u h l)
 
 -- no row is left
 rows_end : {img : List ℕ} {u : UnderN.Under} {prev : Option Text} {here left : ℕ} {l : List (Text × UnderName u)}
@@ -182,9 +253,6 @@ rows_end {img} {u} {prev} {here} {left} {l} h w = go left h l w.read
     go zero h [] d = refl
     go zero h (x ∷ l) d = cc
 
-put-none : {l : List ℕ} {at : ℕ} → length l < edge → at ≤ edge → Put l at [] at l
-put-none h k = record { to = omega arith; is = refl; short = h }
-
 keep-few : {K A : Type 0} (p : K → A → Bool) (l : List (K × A)) → length (keep_rows p l) ≤ length l
 keep-few p [] = omega arith
 keep-few p (e ∷ l) = go (p e.0 e.1) (keep-few p l)
@@ -193,21 +261,21 @@ keep-few p (e ∷ l) = go (p e.0 e.1) (keep-few p l)
     go true h = omega arith
     go false h = omega arith
 
-module _ {img : List ℕ} {u : UnderN.Under} {f : Text → Option ℕ} {old : List ℕ} {at first total here left : ℕ} {names : Merge}
+module _ {image img : List ℕ} {u : UnderN.Under} {f : Text → Option ℕ} {old : List ℕ} {at first total here left : ℕ} {names : Ahead Sources Row}
     {buf : List ℕ} {k : Written}
-    (g : Keeping img u f old at first total here left names buf k) where
-  module _ (h : 0 < left) {r : RowRead} (w : ReadsRow img u here r) {x : Option ℕ} {seen : Merge}
-      (s : Sought names (row_name img r) x seen) where
+    (g : Keeping image img u f old at first total here left names buf k) where
+  module _ (h : 0 < left) {r : RowRead} (w : ReadsRow img u here r) {x : Option ℕ} {seen : Ahead Sources Row}
+      (s : Sought image names (row_name img r) x seen) where
     -- the names after the row's are not less
-    later : (l : List (Text × UnderName u)) → Under by_bytes (row_name img r) l → Every (λ (e : Text × UnderName u). leads_in names e.0 ≡ f e.0) l
-        → Every (λ (e : Text × UnderName u). leads_in seen e.0 ≡ f e.0) l
+    later : (l : List (Text × UnderName u)) → Under by_bytes (row_name img r) l → Every (λ (e : Text × UnderName u). leads_on names e.0 ≡ f e.0) l
+        → Every (λ (e : Text × UnderName u). leads_on seen e.0 ≡ f e.0) l
     later [] v a = tt
     later (e ∷ l) v a =
         (s.same e.0 (λ z. never-lt _ (by_bytes.trans (row_name img r) e.0 (row_name img r) v.0 z) (by_bytes.self (row_name img r))) ∙ a.0, later l v.1 a.1)
 
-    module _ {b : Bool} (d : Keeps img u x r.under b) {k2 : Written} {out : List ℕ} (w₂ : PutsRow (between img here r.next) b k buf k2 out) where
+    module _ {b : Bool} (d : Keeps img u x r.under b) where
       module _ (all : List (Text × UnderName u)) (q : Progress img u f old at all here left names buf k) (t : Taken img u left q.rows r w.value) where
-        agrees : Every (λ (e : Text × UnderName u). leads_in names e.0 ≡ f e.0) ((row_name img r, w.value) ∷ t.others)
+        agrees : Every (λ (e : Text × UnderName u). leads_on names e.0 ≡ f e.0) ((row_name img r, w.value) ∷ t.others)
         agrees = rw t.are at q.agree
 
         decides : keeps u (f (row_name img r)) w.value ≡ b
@@ -220,76 +288,109 @@ module _ {img : List ℕ} {u : UnderN.Under} {f : Text → Option ℕ} {old : Li
             part-written (name then under u) (then-one name (under u) name-one (under-one u)) {a = (row_name img r, w.value)} q.standing.within
             (record { same = rw (w.named, w.held); within = w.within })
 
-        rows_are : (x : Bool) → b ≡ x → kept_rows u f q.rows ≡ cond x ((row_name img r, w.value) ∷ kept_rows u f t.others) (kept_rows u f t.others)
-        rows_are x e =
+        rows_are : (y : Bool) → b ≡ y → kept_rows u f q.rows ≡ cond y ((row_name img r, w.value) ∷ kept_rows u f t.others) (kept_rows u f t.others)
+        rows_are y e =
             ap (kept_rows u f) t.are
             ∙ ap (λ (y : Bool). cond y ((row_name img r, w.value) ∷ kept_rows u f t.others) (kept_rows u f t.others)) (decides ∙ e)
 
-        on : (y : Bool) → b ≡ y → Progress img u f old at all r.next (left - 1) seen out k2
+        stays-on : b ≡ true → {end : ℕ} {out : List ℕ} → Put buf k.end (between img here r.next) end out
+            → Progress img u f old at all r.next (left - 1) seen out (record { end = end; count = k.count + 1 })
         unfolding rows_bytes
-        on true e =
-            let y = w₂.stayed e in
-            record {
-              prev = Some (row_name img r);
-              rows = t.others;
-              standing = t.standing;
-              agree = later t.others t.rise agrees.1;
-              put = λ x new v. q.put x new (rw (rows_are true e) (put-append (rw row-bytes at y.0) v));
-              counts = omega (arith, q.counts, ap length (rows_are true e), y.1);
-            }
-        on false e =
-            let y = w₂.dropped e in
-            rw (y.0, y.1)
-            (record {
-              prev = Some (row_name img r);
-              rows = t.others;
-              standing = t.standing;
-              agree = later t.others t.rise agrees.1;
-              put = λ x new v. q.put x new (rw (rows_are false e) v);
-              counts = omega (arith, q.counts, ap length (rows_are false e));
-            })
+        stays-on e p = record {
+          prev = Some (row_name img r);
+          rows = t.others;
+          standing = t.standing;
+          agree = later t.others t.rise agrees.1;
+          put = λ x new v. q.put x new (rw (rows_are true e) (put-append (rw row-bytes at p) v));
+          counts = omega (arith, q.counts, ap length (rows_are true e));
+        }
 
-      low-on : (x : Bool) → b ≡ x → (k2.end ≤ edge) × (length out ≡ length old)
-      low-on true e = let y = w₂.stayed e in (omega (arith, y.0.to), put-length y.0 ∙ g.same)
-      low-on false e = let y = w₂.dropped e in rw (y.0, y.1) (g.low, g.same)
+        drops-on : b ≡ false → Progress img u f old at all r.next (left - 1) seen buf k
+        drops-on e = record {
+          prev = Some (row_name img r);
+          rows = t.others;
+          standing = t.standing;
+          agree = later t.others t.rise agrees.1;
+          put = λ x new v. q.put x new (rw (rows_are false e) v);
+          counts = omega (arith, q.counts, ap length (rows_are false e));
+        }
 
-      pub keeping-on : Keeping img u f old at first total r.next (left - 1) seen out k2
-      keeping-on = record {
-        rises = s.rises;
-        low = (low-on b refl).0;
-        same = (low-on b refl).1;
+      keeping-stays : b ≡ true → {end : ℕ} {out : List ℕ} → Put buf k.end (between img here r.next) end out
+          → Keeping image img u f old at first total r.next (left - 1) seen out (record { end = end; count = k.count + 1 })
+      keeping-stays e p = record {
+        in_step = s.in_step;
+        low = omega (arith, p.to);
+        same = put-length p ∙ g.same;
         short = g.short;
-        kept = λ l z. let q = g.kept l z in on l q (row-taken w h q.standing) b refl;
+        kept = λ l z. let q = g.kept l z in stays-on l q (row-taken w h q.standing) e p;
       }
+
+      keeping-drops : b ≡ false → Keeping image img u f old at first total r.next (left - 1) seen buf k
+      keeping-drops e = record {
+        in_step = s.in_step;
+        low = g.low;
+        same = g.same;
+        short = g.short;
+        kept = λ l z. let q = g.kept l z in drops-on l q (row-taken w h q.standing) e;
+      }
+
+-- ---- the same of the rows that are left of a list
+
+pub record KeepingRows (all : Sources) (list : NameList) (old : List ℕ) (at : ℕ) (first rows : NameRows) (names : Ahead Sources Row)
+    (buf : List ℕ) (k : Written) : Type 0 where
+  pub image : rows.img.now ≡ list.img.now
+  pub sort : rows.what ≡ list.what
+  pub keeping : Keeping all.img.now list.img.now list.what (leads_in all) old at first.rows.first first.rows.count rows.rows.first rows.rows.count names buf k
+
+module _ {all : Sources} {list : NameList} {old : List ℕ} {at : ℕ} {first rows : NameRows} {names : Ahead Sources Row} {buf : List ℕ} {k : Written}
+    (g : KeepingRows all list old at first rows names buf k) where
+  module _ {place : ℕ} {r : RowRead} {after : NameRows} (t : Steps rows place r after) {x : Option ℕ} {seen : Ahead Sources Row}
+      (s : Sought all.img.now names (row_name list.img.now r) x seen) {b : Bool} (d : Keeps list.img.now list.what x r.under b) where
+    -- a row that stays is written
+    pub row-stays : b ≡ true → {end : ℕ} {out : List ℕ} → Put buf k.end (between list.img.now place r.next) end out
+        → {more : Written} → (more.end ≡ end) × (more.count ≡ k.count + 1) → KeepingRows all list old at first after seen out more
+    row-stays e p w = record {
+      image = t.image ∙ g.image;
+      sort = t.sort ∙ g.sort;
+      keeping = rw (t.next, t.fewer, w.0, w.1) (keeping-stays g.keeping t.more (row-stepped g.image g.sort t) s d e (rw t.at at p));
+    }
+
+    pub row-drops : b ≡ false → KeepingRows all list old at first after seen buf k
+    row-drops e = record {
+      image = t.image ∙ g.image;
+      sort = t.sort ∙ g.sort;
+      keeping = rw (t.next, t.fewer) (keeping-drops g.keeping t.more (row-stepped g.image g.sort t) s d e);
+    }
 
 -- ---- the list, all of whose rows were looked at
 
-module _ (list : NameList) {f : Text → Option ℕ} {old : List ℕ} {at here left : ℕ} {r : Rows} {names : Merge} {buf : List ℕ} {k : Written}
-    (g : Keeping list.img.now list.what f old at r.first r.count here left names buf k) (l : ListRows list r) where
+module _ (list : NameList) {image : List ℕ} {f : Text → Option ℕ} {old : List ℕ} {at here left : ℕ} {r : NameRows}
+    {names : Ahead Sources Row} {buf : List ℕ} {k : Written}
+    (g : Keeping image list.img.now list.what f old at r.rows.first r.rows.count here left names buf k) (l : ListRows list r) where
   pub keeping_all : left ≤ 0 → PutsKept list f old at k buf
   unfolding rows_bytes
   keeping_all h =
-      let q = g.kept (list_in list).rows l in
+      let q = g.kept (list_in list).rows l.standing in
       let z = rows_end h q.standing in
       record {
-        put = q.put k.end buf (rw z (put-none (omega (arith, g.short, g.same)) g.low));
+        put = q.put k.end buf (rw z (put-nothing (omega (arith, g.short, g.same)) (record { fits = omega (arith, g.low) })));
         count = omega (arith, q.counts, ap (λ (l : List (Text × UnderName list.what)). length (kept_rows list.what f l)) z);
       }
 
   -- there is no more than the list's count
   pub keeping-few : k.count < edge
   keeping-few =
-      let q = g.kept (list_in list).rows l in
+      let q = g.kept (list_in list).rows l.standing in
       let there = list-is list.img.now list.what list.place list.listed in
       omega (arith, q.counts, keep-few (λ k v. keeps list.what (f k) v) (list_in list).rows, ((by_name-one list.what).forth _ _ _ there.1).1.0)
 
 -- ---- the list
 
-pub kept-list : (list : NameList) (f : Text → Option ℕ) {old mid new none₁ none₂ : List ℕ} {at zero₁ q : ℕ} {c k : Written}
-    → PutsKept list f none₁ zero₁ c none₂ → Put old at (number_bytes c.count) q mid → PutsKept list f mid q k new
-    → Put old at (kept_bytes list f) k.end new
-kept-list list f a b c =
+pub kept-list : (list : NameList) (f : Text → Option ℕ) {old new : List ℕ} {at q : ℕ}
+    → Put old at (number_bytes (length (rows_kept list f)) ++ rows_bytes name (under list.what) (rows_kept list f)) q new
+    → Put old at (kept_bytes list f) q new
+kept-list list f p =
     let u = list.what in
     let t = list_in list in
     let e : (kept_map u f t).rows ≡ kept_rows u f t.rows = keep-are by_bytes (λ k v. keeps u (f k) v) t in
-    rw (e, chain-rows by_bytes name (under u) None (kept_rows u f t.rows), ← a.count) (put-append b c.put)
+    rw (e, chain-rows by_bytes name (under u) None (kept_rows u f t.rows)) p

@@ -148,7 +148,7 @@ module _ {s : Stack} {all : Lists} where
     pub leading-none : o ≡ None → LeadsBy s all
     leading-none e =
         let z : i ≡ 0 = omega arith in
-        leads-of g.maps g.are (λ k. g.same k ∙ ap (lead_or k g.maps) (rw z ((rw e at b) k)))
+        leads-of g.maps g.are (λ k. g.same k ∙ ap (lead_or k g.maps) (rw z ((rw e at b) k).0))
 
     pub leading-all : (r : NameList) → o ≡ Some r → {f : Source} → ListOf s.img.now U.Inode r.place.start f → {out : Lists} → Pushes all (f ∷ []) out
         → LeadsBy s out

@@ -1,6 +1,8 @@
 -- The rows that stay. Document 01: "it drops added names that lead to the same inode below and removed names that lead to none."
-use Rattle.std.specs.Prelude.{◌≡◌, Bool, true, false, not, cond, List, [], ◌∷◌, ℕ, ◌+◌, length, drop, Option}
+use Rattle.std.specs.Prelude.{◌≡◌, Bool, not, cond, List, [], ◌∷◌, ℕ, length, drop, None, Option, Some}
 use Rattle.std.specs.declared.cmp.Ordering.TheVariants.{Less}
+use Rattle.std.specs.declared.iter.Ahead.{Ahead}
+use Rattle.std.specs.Iterator.Adapters.{peekable_peeked, peekable_source}
 use Rattle.wire.specs.Parse.{got}
 use Rattle.wire.specs.Orders.{by_bytes}
 use Rattle.wire.specs.Rows.{lookup, Rising}
@@ -16,8 +18,9 @@ use Rattle.rules.specs.Reads.{is_there}
 use Rattle.rules.specs.Changes.{map_if}
 use Rattle.rules.specs.Normalise.{leads_to}
 use Rattle.merge.specs.Sources.{Given}
-use Rattle.merge.specs.Merges.{gives_from}
-use Rattle.merge.specs.declared.merge.Merge.{Merge}
+use Rattle.merge.specs.Merges.{given_in, gives_from}
+use Rattle.merge.specs.declared.merge.Row.{Row}
+use Rattle.merge.specs.declared.sources.Sources.{Sources}
 use Rattle.change.specs.Cuts.{rows_bytes}
 use Rattle.keep.specs.Below.{inode_given}
 use Rattle.nodes.specs.Listed.{by_name}
@@ -44,33 +47,42 @@ kept_rows u below l = keep_rows (λ k v. keeps u (below k) v) l
 
 -- ---- names in step
 
--- the names that are left: the first, and those that the sources past it give; and what one of them leads to
-abbrev pub names_of : Merge → List (Text × (ℕ × Given))
-names_of m = gives_from m.first m.all
+-- what one of the names that sources give leads to
+abbrev pub leads_in : Sources → Text → Option ℕ
+leads_in all k = map_if inode_given (lookup by_bytes k (given_in all))
 
-abbrev pub leads_in : Merge → Text → Option ℕ
-leads_in m k = map_if inode_given (lookup by_bytes k (names_of m))
+-- the names that are left: the one that is ahead, if it was asked for, and those that the sources past it give
+abbrev pub left_of : Option (Option Row) → Sources → List (Text × (ℕ × Given))
+left_of None all = given_in all
+left_of (Some first) all = gives_from first all
 
-abbrev pub Rises : Merge → Type 0
-Rises m = Rising by_bytes (names_of m)
+abbrev pub names_of : Ahead Sources Row → List (Text × (ℕ × Given))
+names_of n = left_of (peekable_peeked n) (peekable_source n)
+
+abbrev pub leads_on : Ahead Sources Row → Text → Option ℕ
+leads_on n k = map_if inode_given (lookup by_bytes k (names_of n))
+
+-- they are of the image, and rise
+pub record InStep (img : List ℕ) (n : Ahead Sources Row) : Type 0 where
+  pub image : (peekable_source n).img.now ≡ img
+  pub rises : Rising by_bytes (names_of n)
 
 -- what a name leads to; the names that are less are passed
-pub record Sought (m : Merge) (k : Text) (x : Option ℕ) (r : Merge) : Type 0 where
-  pub leads : x ≡ leads_in m k
-  pub rises : Rises r
-  pub same : (j : Text) → (by_bytes.cmp j k ≡ Less → ⊥) → leads_in r j ≡ leads_in m j
+pub record Sought (img : List ℕ) (n : Ahead Sources Row) (k : Text) (x : Option ℕ) (r : Ahead Sources Row) : Type 0 where
+  pub leads : x ≡ leads_on n k
+  pub in_step : InStep img r
+  pub same : (j : Text) → (by_bytes.cmp j k ≡ Less → ⊥) → leads_on r j ≡ leads_on n j
 
 pub record Keeps (img : List ℕ) (u : Under) (below : Option ℕ) (p : ℕ) (r : Bool) : Type 0 where
   pub is : (v : UnderName u) (s : List ℕ) → (under u).read (drop p img) ≡ got v s → r ≡ keeps u below v
 
+-- what it answers is whether a row stays
+abbrev pub KeepsBy : List ℕ → Under → (Option ℕ → ℕ → Bool → Type 0) → Type 0
+KeepsBy img u Post = (below : Option ℕ) (p : ℕ) (r : Bool) → Post below p r → Keeps img u below p r
+
 -- the list of the rows that stay
 abbrev pub kept_bytes : NameList → (Text → Option ℕ) → List ℕ
 kept_bytes l below = (by_name l.what).write (kept_map l.what below (list_in l))
-
--- a row, if it stays
-pub record PutsRow (bytes : List ℕ) (stays : Bool) (kept : Written) (old : List ℕ) (r : Written) (new : List ℕ) : Type 0 where
-  pub stayed : stays ≡ true → Put old kept.end bytes r.end new × (r.count ≡ kept.count + 1)
-  pub dropped : stays ≡ false → (r ≡ kept) × (new ≡ old)
 
 -- the rows of a list that stay
 abbrev pub rows_kept : (l : NameList) → (Text → Option ℕ) → List (Text × UnderName l.what)

@@ -8,7 +8,7 @@ ghost use Rattle.keep.specs.Below.{LeadsBy, Leads};
 use deltas::delta::{DirectoryDelta, EntryDelta, NodeDelta};
 use image::name::Under;
 use lookup::child::base_entries;
-use merge::merge::{AtMostTwo, no_lists, push_lists};
+use merge::merge::AtMostTwo;
 use merge::read::source_at;
 use merge::sources::{Lists, Sources};
 use stack::stack::Stack;
@@ -28,18 +28,18 @@ fn directory_lists(img: &[u8], directory: DirectoryDelta) -> AtMostTwo
 fn lists_down(stack: Stack) -> Lists
     ensures { LeadsBy stack.entry result }
 {
-    let mut all = no_lists();
+    let mut all = Lists::new();
     for i in (0..stack.places.count).rev() {
         let EntryDelta::Node(NodeDelta::Directory(directory)) = stack.record(i) else {
             return all;
         };
-        push_lists(&mut all, directory_lists(stack.img, directory));
+        all.push(directory_lists(stack.img, directory));
     }
     let Some(entries) = base_entries(stack) else {
         return all;
     };
     let lowest = source_at(stack.img, entries.place.start, Under::Inode);
-    push_lists(&mut all, AtMostTwo::One(lowest));
+    all.push(AtMostTwo::One(lowest));
     all
 }
 
@@ -47,10 +47,8 @@ fn lists_down(stack: Stack) -> Lists
 pub fn names_in(stack: Stack) -> Sources
     ensures { Leads stack.entry result }
 {
-    let Lists { rows, count } = lists_down(stack);
     Sources {
         img: stack.img,
-        rows,
-        count,
+        lists: lists_down(stack),
     }
 }

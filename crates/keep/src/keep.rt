@@ -4,30 +4,30 @@ ghost use Rattle.image.specs.declared.name.Under.TheVariants as U;
 ghost use Rattle.wire.specs.Number.{edge};
 ghost use Rattle.wire.specs.Put.{Put};
 ghost use Rattle.change.specs.Sections.{between};
-ghost use Rattle.keep.specs.Keeps.{Rises, Sought, leads_in, Keeps, PutsRow, PutsKept, kept_bytes};
+ghost use Rattle.keep.specs.Keeps.{InStep, Sought, leads_in, Keeps, KeepsBy, PutsKept, kept_bytes};
 
 use change::copy::put_between;
 use image::name::Under;
 use lookup::list::NameList;
-use lookup::search::read_row;
-use merge::merge::Merge;
+use merge::sources::Sources;
 use std::cmp::Ordering;
-use wire::number::{put_number, read_number};
+use std::iter::Peekable;
+use wire::number::read_number;
 use wire::order::compare_part;
-use wire::put::Written;
+use wire::put::{Written, put_counted};
 
 // The inode that a name leads to, if it leads anywhere. The names that are less are passed.
-fn leads_to(names: &mut Merge, name: &[u8]) -> Option<u64>
-    requires { Rises names.old }
-    ensures { Sought names.old name.now result names.new }
+fn leads_to(img: &[u8], names: &mut Peekable<Sources>, name: &[u8]) -> Option<u64>
+    requires { InStep img.now names.old }
+    ensures { Sought img.now names.old name.now result names.new }
 {
-    while let Some(row) = names.first {
-        match compare_part(names.all.img, row.name, name) {
+    while let Some(row) = names.peek() {
+        match compare_part(img, row.name, name) {
             Ordering::Less => {}
             Ordering::Equal => return Some(row.given.inode),
             Ordering::Greater => return None,
         }
-        names.first = names.all.next();
+        names.next();
     }
     None
 }
@@ -36,73 +36,59 @@ fn leads_to(names: &mut Merge, name: &[u8]) -> Option<u64>
 fn is_entry_kept(img: &[u8], below: Option<u64>, under: usize) -> bool
     ensures { Keeps img.now U.Inode below under result }
 {
-    let Some(inode) = below else {
-        return true;
-    };
-    let (number, _) = read_number(img, under, u64::MAX).unwrap_or((0, 0));
-    inode != number
-}
-
-// A removed name stays, if it leads anywhere. A `match`, as in `pass_under`.
-fn is_kept(img: &[u8], what: Under, below: Option<u64>, under: usize) -> bool
-    ensures { Keeps img.now what below under result }
-{
-    match what {
-        Under::Inode => is_entry_kept(img, below, under),
-        Under::Nothing => below.is_some(),
-        Under::Value => below.is_some(),
-        Under::Change => below.is_some(),
-    }
-}
-
-// Writes a row as it stands, if it stays. Two places and no `Part`, as `put_between` takes them.
-fn put_row(
-    buf: &mut [u8],
-    kept: Written,
-    img: &[u8],
-    start: usize,
-    end: usize,
-    stays: bool,
-) -> Written
-    requires { kept.count < edge }
-    ensures { PutsRow (between img.now start end) stays kept buf.old result buf.new }
-{
-    if stays {
-        return Written {
-            end: put_between(buf, kept.end, img, start, end),
-            count: kept.count + 1,
-        };
-    }
-    kept
+    let (inode, _) = read_number(img, under, u64::MAX).unwrap_or((0, 0));
+    below != Some(inode)
 }
 
 // Writes the rows that stay, and counts them.
-fn put_kept(buf: &mut [u8], at: usize, list: NameList, merge: &Merge) -> Written
-    requires { Rises merge.now }
-    ensures { PutsKept list.entry (leads_in merge.entry.now) buf.old at result buf.new }
+fn put_kept<F: Fn(Option<u64>, usize) -> bool>(
+    buf: &mut [u8],
+    at: usize,
+    list: NameList,
+    sources: &Sources,
+    stays: &F,
+) -> Written
+    requires callable { F.IsAlwaysCallable stays.now }
+    requires keeps { KeepsBy list.img.now list.what (F.post stays.now) }
+    ensures { PutsKept list.entry (leads_in sources.entry.now) buf.old at result buf.new }
 {
-    let rows = list.rows();
-    let mut names = *merge;
-    let mut here = rows.first;
+    let mut names = sources.peekable();
     let mut kept = Written { end: at, count: 0 };
-    for _ in 0..rows.count {
-        let row = read_row(list.img, here, list.what);
-        let below = leads_to(&mut names, row.name.of(list.img));
-        let stays = is_kept(list.img, list.what, below, row.under);
-        kept = put_row(buf, kept, list.img, here, row.next, stays);
-        here = row.next;
+    for (start, row) in list.rows() {
+        let below = leads_to(sources.img, &mut names, row.name.of(list.img));
+        if stays(below, row.under) {
+            let end = put_between(buf, kept.end, list.img, start, row.next);
+            kept = kept.more(end);
+        }
     }
     kept
 }
 
-// Writes the list of the rows that stay, their count first.
-pub fn put_kept_list(buf: &mut [u8], at: usize, list: NameList, merge: &Merge) -> usize
-    requires { Rises merge.now }
-    ensures { Put buf.old at (kept_bytes list.entry (leads_in merge.entry.now)) result buf.new }
+// Writes the list of the rows that stay, their count first. Whether a row stays is asked of what its name leads to, and of the place of what
+// stands under the name.
+fn put_list_by<F: Fn(Option<u64>, usize) -> bool>(
+    buf: &mut [u8],
+    at: usize,
+    list: NameList,
+    sources: &Sources,
+    stays: F,
+) -> usize
+    requires callable { F.IsAlwaysCallable stays }
+    requires keeps { KeepsBy list.img.now list.what (F.post stays) }
+    ensures { Put buf.old at (kept_bytes list.entry (leads_in sources.entry.now)) result buf.new }
 {
-    let mut none = [0u8; 0];
-    let counted = put_kept(&mut none, 0, list, merge);
-    let first = put_number(buf, at, counted.count);
-    let kept = put_kept(buf, first, list, merge);
-    kept.end
+    put_counted(buf, at, |buf, at| put_kept(buf, at, list, sources, &stays))
+}
+
+// The same, where an entry stays unless its name leads to the same inode below, and any other name if it leads anywhere. A `match` on the sort, which
+// is a value of the list (`pass_under`, image), once for all its rows.
+pub fn put_kept_list(buf: &mut [u8], at: usize, list: NameList, sources: &Sources) -> usize
+    ensures { Put buf.old at (kept_bytes list.entry (leads_in sources.entry.now)) result buf.new }
+{
+    match list.what {
+        Under::Inode => put_list_by(buf, at, list, sources, |below, under| {
+            is_entry_kept(list.img, below, under)
+        }),
+        _ => put_list_by(buf, at, list, sources, |below, _| below.is_some()),
+    }
 }

@@ -10,15 +10,13 @@ use Rattle.rules.specs.Initial.{usual}
 use Rattle.rules.specs.FileAttrs.{attributes, base_attr, step_attr}
 use Rattle.rules.specs.FileAttrs as R
 use Rattle.attrs.specs.declared.node.FileAttr.{FileAttr}
-use Rattle.nodes.specs.declared.node.NodeKind.{NodeKind}
-use Rattle.nodes.specs.declared.node.NodeKind.TheVariants as K
 use Rattle.deltas.specs.declared.delta.NodeDelta.{NodeDelta}
 use Rattle.deltas.specs.declared.delta.NodeDelta.TheVariants as D
 use Rattle.deltas.specs.declared.delta.EntryDelta.{EntryDelta}
 use Rattle.deltas.specs.declared.delta.EntryDelta.TheVariants as E
-use Rattle.nodes.specs.Nodes.{EntriesListed}
 use Rattle.deltas.specs.Deltas.{entry_meant, ChangeListed, EntryListed}
-use Rattle.attrs.specs.Attrs.{TargetIn, LinkIn}
+use Rattle.attrs.specs.Attrs.{TargetIn}
+use Rattle.attrs.proofs.Linked.{kind-in}
 use Rattle.layers.specs.Attrs.{EntryTargetIn, BaseLinkIn, attr_if}
 use Rattle.stack.specs.Stacks.{BaseIs, node_meant_if}
 use Rattle.stack.specs.InStack.{RecordIn, BaseIn, shown_lowest}
@@ -39,15 +37,6 @@ change-in img (D.Socket d) end h = tt
 entry_in : (img : List ℕ) (e : EntryDelta) (end : ℕ) → EntryListed img e end → EntryTargetIn img e
 entry_in img (E.Node n) end h = change-in img n end h
 entry_in img E.Tombstone end h = tt
-
-kind-in : (img : List ℕ) (k : NodeKind) (end : ℕ) → EntriesListed img k end → LinkIn img k
-kind-in img (K.Directory p es) end h = tt
-kind-in img (K.File n) end h = tt
-kind-in img (K.Symlink t) end h = h
-kind-in img K.Fifo end h = tt
-kind-in img (K.CharDevice r) end h = tt
-kind-in img (K.BlockDevice r) end h = tt
-kind-in img K.Socket end h = tt
 
 base-in : (img : List ℕ) (p : Option ℕ) (o : Option Node) → BaseIs img p o → BaseLinkIn img o
 base-in img p None b = tt

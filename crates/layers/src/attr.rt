@@ -25,7 +25,7 @@ pub fn attr(img: &[u8], ino: u64) -> Result<Option<FileAttr>, Refusal>
     Ok(shown_attr(stack, ino))
 }
 
-// What a record makes of the attributes below it.
+// What a record makes of the attributes below it. Two arms, as the definition has them: they need no proof, `unwrap_or` (tried) needs one.
 fn step_attr(entry: EntryDelta, below: Option<FileAttr>, ino: u64) -> Option<FileAttr>
     ensures { (img : List ℕ) → EntryTargetIn img entry → attr_if result ≡ step_attr usual ino (entry_meant img entry) (attr_if below) }
 {

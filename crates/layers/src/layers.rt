@@ -8,7 +8,7 @@ ghost use Rattle.nodes.specs.Options.{text_of as textMeant};
 ghost use Rattle.stack.specs.Stacks.{type_of};
 ghost use Rattle.layers.specs.Answered.{answered};
 
-use deltas::delta::{EntryDelta, NodeDelta};
+use deltas::delta::{DirectoryDelta, EntryDelta, NodeDelta, SymlinkDelta};
 use image::kind::FileType;
 use nodes::node::{Node, NodeKind};
 use stack::file_type::Type;
@@ -18,7 +18,7 @@ use std::ops::ControlFlow;
 use survey::refusal::Refusal;
 use wire::part::{Part, part_if};
 
-// Whether the inode exists.
+// Whether the inode exists. It opens the image by itself: in the definitions it is a call of its own, and not what `file_type` answers.
 pub fn exists(img: &[u8], ino: u64) -> Result<bool, Refusal>
     ensures { answered (λ yes. yes) result ≡ exists usual img.now ino }
 {
@@ -63,7 +63,7 @@ pub fn has_link(img: &[u8], ino: u64) -> Result<bool, Refusal>
 }
 
 // Where the text of a link stands.
-fn link_of(img: &[u8], ino: u64) -> Result<Option<Part>, Refusal>
+pub fn link_of(img: &[u8], ino: u64) -> Result<Option<Part>, Refusal>
     ensures { answered (textMeant img.now) result ≡ read_link usual img.now ino }
 {
     let stack = open_image(img, ino)?;
@@ -71,6 +71,7 @@ fn link_of(img: &[u8], ino: u64) -> Result<Option<Part>, Refusal>
 }
 
 // The parent: from the top, the first directory delta with one; a tombstone or another kind, none; then a base directory's.
+// `Parent` and `LinkText` differ in the variant that they match, which no type parameter says.
 pub struct Parent;
 
 impl Question for Parent {
@@ -84,10 +85,15 @@ impl Question for Parent {
 
     fn record(&self, _img: &[u8], entry: EntryDelta) -> ControlFlow<Option<u64>> {
         match entry {
-            EntryDelta::Node(NodeDelta::Directory(directory)) => match directory.parent {
-                Some(parent) => ControlFlow::Break(Some(parent)),
-                None => ControlFlow::Continue(()),
-            },
+            EntryDelta::Node(
+                NodeDelta::Directory(
+                    DirectoryDelta {
+                        parent: Some(parent),
+                        ..
+                    },
+                ),
+            ) => ControlFlow::Break(Some(parent)),
+            EntryDelta::Node(NodeDelta::Directory(_)) => ControlFlow::Continue(()),
             _ => ControlFlow::Break(None),
         }
     }
@@ -114,10 +120,15 @@ impl Question for LinkText {
 
     fn record(&self, _img: &[u8], entry: EntryDelta) -> ControlFlow<Option<Part>> {
         match entry {
-            EntryDelta::Node(NodeDelta::Symlink(link)) => match link.target {
-                Some(text) => ControlFlow::Break(Some(text)),
-                None => ControlFlow::Continue(()),
-            },
+            EntryDelta::Node(
+                NodeDelta::Symlink(
+                    SymlinkDelta {
+                        target: Some(text),
+                        ..
+                    },
+                ),
+            ) => ControlFlow::Break(Some(text)),
+            EntryDelta::Node(NodeDelta::Symlink(_)) => ControlFlow::Continue(()),
             _ => ControlFlow::Break(None),
         }
     }

@@ -1,8 +1,9 @@
 -- The target of a snapshot that is not refused begins with the snapshot's base.
 -- Assumes nothing.
 use Rattle.std.specs.Prelude.{Result, Ok, Err}
+use Rattle.std.proofs.lemmas.Bool.{and_parts}
 use mathlib.Core.Path.{◌≡◌, refl, sym, ap, ◌∙◌}
-use mathlib.Core.Bool.{Bool, true, false, ◌&&◌, cond}
+use mathlib.Core.Bool.{Bool, true, false, cond}
 use mathlib.Core.List.{List, ◌++◌, append_assoc}
 use Prim.Native.Nat.{ℕ, ◌≤◌}
 use native.Mathlib.Omega.{arith}
@@ -58,23 +59,19 @@ read_fits : (img : List ℕ) {s : Store} {r : List ℕ} → read_image img ≡ g
 unfolding store
 read_fits img {s} {r} e = (encode-decode store store-one img s r e).1
 
-both_true : (a b : Bool) → (a && b) ≡ true → a ≡ true
-both_true true b e = refl
-both_true false b e = cc
-
 -- a snapshot that is not refused fits an image
 snapshot-is : (room : ℕ) (img : List ℕ) {s : Store} → snapshot_of room img ≡ answer s → FitsStore s
 unfolding over_image
 snapshot-is room img {s} = go (ltb 65536 (length img)) (read_image img) refl
   where
     sized : (t : Store) (b : Bool) → has_room room t ≡ b → cond b (answer t) (refused 5) ≡ answer s → (t ≡ s) × (length (write_image t) ≤ 65536)
-    sized t true h e = (cc, leb-true (length (write_image t)) 65536 (both_true _ _ h))
-    sized t false h e = absurd (let z : ◌≡◌ {A = ℕ} 0 1 = cc in omega arith)
+    sized t true h e = (cc, leb-true (length (write_image t)) 65536 (and_parts _ _ h).0)
+    sized t false h e = cc
 
     go : (b : Bool) (o : Parsed Store) → read_image img ≡ o
         → cond b (refused 1) (of_store (λ s. if_room (has_room room) (answer (snapshot usual s))) o) ≡ answer s → FitsStore s
-    go true o d e = absurd (let z : ◌≡◌ {A = ℕ} 0 1 = cc in omega arith)
-    go false (fault f) d e = absurd (let z : ◌≡◌ {A = ℕ} 0 1 = cc in omega arith)
+    go true o d e = cc
+    go false (fault f) d e = cc
     go false (got t r) d e =
         let g = sized (snapshot usual t) (has_room room (snapshot usual t)) refl e in
         rw (← g.0) (snapshot-fits usual usual-fits t (read_fits img d) g.1)
@@ -104,7 +101,7 @@ module _ {img old new : List ℕ} {made : Result ℕ Refusal} (h : Changes (snap
     where
       go : (o : Answer Store) → Err (number_of e) ≡ answered (map_answer write_image o) → OpensTo o r new
       go (refused m) x = ap numbered d ∙ let z : number_of e ≡ m = cc in ap Err z
-      go (answer s) x = absurd (let z : ◌≡◌ {A = ℕ} 0 1 = cc in omega arith)
+      go (answer s) x = cc
 
   pub opened-lines : {n : ℕ} {rows : Rows} → made ≡ Ok n → RowsAt new last_count 0 rows → r ≡ Ok rows → OpensListing img old r new
   opened-lines {n} {rows} a f e =

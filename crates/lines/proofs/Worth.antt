@@ -1,5 +1,6 @@
 -- The digits of a number are worth the number.
 -- Assumes nothing.
+use Rattle.std.proofs.lemmas.Bool.{and_parts}
 use mathlib.Core.Path.{◌≡◌, refl, sym, ◌∙◌}
 use mathlib.Core.Bool.{Bool, true, false, ◌&&◌, cond}
 use mathlib.Core.List.{List, [], ◌∷◌, ◌++◌}
@@ -22,10 +23,6 @@ worth-last : (base sum d : ℕ) (l : List ℕ) → worth_after base sum (l ++ (d
 worth-last base sum d [] = refl
 worth-last base sum d (c ∷ l) = worth-last base (sum * base + (c - 0x30)) d l
 
-both_first : (a b : Bool) → (a && b) ≡ true → a ≡ true
-both_first true b e = refl
-both_first false b e = cc
-
 -- where there is room for all of them
 pub digits-worth : (base most least n : ℕ) → 0 < base → n < base ^ most → worth base (digits base most least n) ≡ n
 unfolding digits
@@ -36,7 +33,7 @@ digits-worth base (suc most) least n z h =
   where
     go : (b : Bool) → (eqb n 0 && eqb least 0) ≡ b → worth base (digits base most (least - 1) (n / base)) ≡ n / base
         → worth base (cond b [] (digits base most (least - 1) (n / base) ++ (glyph (n % base) ∷ []))) ≡ n
-    go true e ih = sym (eqb-true n 0 (both_first (eqb n 0) (eqb least 0) e))
+    go true e ih = sym (eqb-true n 0 (and_parts (eqb n 0) (eqb least 0) e).0)
     go false e ih =
         worth-last base 0 (glyph (n % base)) (digits base most (least - 1) (n / base))
         ∙ rw ih (omega (arith, div-add-mod' n base))

@@ -6,7 +6,7 @@ ghost use Rattle.lines.specs.Digits.{digits, decimal, octal};
 use wire::put::put_bytes;
 
 // Writes the digits of `number` in `base`, at least `least` of them, and answers the place after them. By hand: the library's `Display`, with
-// no heap, makes a text of its own (`InlineText`), which may be cut.
+// no heap, makes a text of its own (`InlineText`), which may be cut. By index, and not over the bytes: the text starts where the loop ends.
 fn put_digits(buf: &mut [u8], at: usize, number: u64, base: u64, least: u64) -> usize
     requires { (1 < base) × (base ≤ 10) }
     ensures { Put buf.old at (digits base 22 least number) result buf.new }

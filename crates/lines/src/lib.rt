@@ -2,5 +2,6 @@
 #![tactic(auto)]
 
 pub mod digit;
+pub mod inodes;
 pub mod line;
 pub mod rows;

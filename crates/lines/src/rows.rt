@@ -1,8 +1,10 @@
-// The snapshot that a listing shows, and its lines, one inode after the other.
-ghost use Rattle.lines.specs.Rows.{OpensListing, NextLine, ReadsRow};
+// The snapshot that a listing shows, and the attributes of its inodes, one after the other.
+ghost use Rattle.std.specs.Iterator.{at_most};
+ghost use Rattle.lines.specs.Rows.{OpensListing, Gives, ReadsRow};
 
-use crate::line::put_line;
+use crate::inodes::BaseRows;
 use attrs::attr::node_attr;
+use attrs::node::FileAttr;
 use flush::flush::snapshot_all;
 use image::field::LAST_WORD;
 use image::rows::{Rows, rows_at};
@@ -11,15 +13,8 @@ use survey::refusal::Refusal;
 use wire::fault::Fault;
 use wire::number::read_number;
 
-// The place after a line, and the rows that are left of the base of a snapshot.
-#[derive(Clone, Copy)]
-pub struct Line {
-    pub end: usize,
-    pub rest: Rows,
-}
-
-// Writes the snapshot of the image to the target, and answers the rows of its base there. Its scratch is the target, of which 65,536 bytes are
-// enough for any image, and that of a snapshot.
+// Writes the snapshot of the image to the target, and answers the rows of its base there. A target of 65,536 bytes is enough for any image. The
+// scratch is that of a snapshot.
 pub fn open_listing(img: &[u8], target: &mut [u8]) -> Result<Rows, Refusal>
     ensures { OpensListing img.now target.old result target.new }
 {
@@ -27,21 +22,21 @@ pub fn open_listing(img: &[u8], target: &mut [u8]) -> Result<Rows, Refusal>
     Ok(rows_at(target, 0, LAST_WORD))
 }
 
-// Writes the line of the next inode at the start of `buf`.
-pub fn put_next(buf: &mut [u8], snapshot: &[u8], rows: Rows) -> Line
-    ensures { NextLine snapshot.now rows buf.old result buf.new }
-{
-    let count = rows.count.saturating_sub(1);
-    let Ok(((inode, node), first)) = read_row(snapshot, rows.first) else {
-        return Line {
-            end: 0,
-            rest: Rows { count, ..rows },
+// The attributes of each inode. It ends where no row can be read.
+impl Iterator for BaseRows<'_> {
+    type Item = FileAttr;
+
+    ghost next_gives = { Gives };
+
+    ghost remaining = { λ s. at_most s.rows.count };
+
+    fn next(&mut self) -> Option<FileAttr> {
+        let count = self.rows.count.checked_sub(1)?;
+        let Ok(((inode, node), first)) = read_row(self.img, self.rows.first) else {
+            return None;
         };
-    };
-    let end = put_line(buf, 0, node_attr(node, inode));
-    Line {
-        end,
-        rest: Rows { first, count },
+        self.rows = Rows { first, count };
+        Some(node_attr(node, inode))
     }
 }
 

@@ -5,18 +5,20 @@ ghost use Rattle.rules.specs.Reads.{child};
 ghost use Rattle.rules.specs.ReadCalls.{lookup_child};
 ghost use Rattle.stack.specs.InStack.{shown_in};
 ghost use Rattle.layers.specs.Answered.{answered};
+ghost use Rattle.image.specs.declared.name.Under.TheVariants as U;
+ghost use Rattle.lookup.specs.Lists.{IsList};
+ghost use Rattle.lookup.specs.Search.{IsListOf};
 ghost use Rattle.lookup.specs.Children.{EntriesAt, BaseEntries};
 
 use crate::list::NameList;
-use crate::search::read_row;
-use deltas::delta::{EntryDelta, NodeDelta};
+use deltas::delta::{DirectoryDelta, EntryDelta, NodeDelta};
+use image::field::Inode;
 use image::name::Under;
-use nodes::node::NodeKind;
+use nodes::field::ReadField;
 use stack::name::open_named;
 use stack::stack::Stack;
 use std::cmp::Ordering;
 use survey::refusal::Refusal;
-use wire::number::read_number;
 use wire::order::compare_part;
 
 // The inode that a name leads to in a directory.
@@ -38,20 +40,16 @@ fn child_in(stack: Stack, name: &[u8]) -> Option<u64>
         let Some(list) = entries_at(stack, layer, name) else {
             break 'layers;
         };
-        let rows = list.rows();
-        let mut here = rows.first;
-        for _ in 0..rows.count {
-            let row = read_row(stack.img, here, Under::Inode);
+        for (_, row) in list.rows() {
             match compare_part(stack.img, row.name, name) {
                 Ordering::Less => {}
                 Ordering::Equal => {
-                    let (inode, _) = read_number(stack.img, row.under, u64::MAX).unwrap();
+                    let (inode, _) = Inode::read(stack.img, row.under).unwrap();
                     found = Some(inode);
                     break 'layers;
                 }
                 Ordering::Greater => break,
             }
-            here = row.next;
         }
     }
     found
@@ -59,7 +57,7 @@ fn child_in(stack: Stack, name: &[u8]) -> Option<u64>
 
 // The entries that a layer adds, or those of the base. None, where the layer decides that there is no such child.
 #[tactic(auto, using(crate::proofs::Children::layers))]
-fn entries_at<'a>(stack: Stack<'a>, layer: usize, name: &[u8]) -> Option<NameList<'a>>
+pub fn entries_at<'a>(stack: Stack<'a>, layer: usize, name: &[u8]) -> Option<NameList<'a>>
     requires { layer ≤ stack.places.count }
     ensures { EntriesAt stack.entry name.now layer result }
 {
@@ -69,32 +67,39 @@ fn entries_at<'a>(stack: Stack<'a>, layer: usize, name: &[u8]) -> Option<NameLis
     let EntryDelta::Node(NodeDelta::Directory(directory)) = stack.record(layer - 1) else {
         return None;
     };
-    let removed = NameList {
-        img: stack.img,
-        place: directory.removed,
-        what: Under::Nothing,
-    };
-    let added = NameList {
-        img: stack.img,
-        place: directory.added,
-        what: Under::Inode,
-    };
+    let (added, removed) = lists_of(stack.img, directory);
     match removed.find(name) {
         Some(_) => None,
         None => Some(added),
     }
 }
 
+// The entries that a directory delta adds, and the names that it removes.
+pub fn lists_of(img: &[u8], directory: DirectoryDelta) -> (NameList, NameList)
+    requires { IsList img.now U.Inode directory.added × IsList img.now U.Nothing directory.removed }
+    ensures { IsListOf img.now U.Inode directory.added result.0 × IsListOf img.now U.Nothing directory.removed result.1 }
+{
+    let added = NameList {
+        img,
+        place: directory.added,
+        what: Under::Inode,
+    };
+    let removed = NameList {
+        img,
+        place: directory.removed,
+        what: Under::Nothing,
+    };
+    (added, removed)
+}
+
 // The entries of a base directory.
 pub fn base_entries(stack: Stack) -> Option<NameList>
     ensures { BaseEntries stack.entry result }
 {
-    match stack.base()?.kind {
-        NodeKind::Directory { parent: _, entries } => Some(NameList {
-            img: stack.img,
-            place: entries,
-            what: Under::Inode,
-        }),
-        _ => None,
-    }
+    let place = stack.base()?.kind.entries()?;
+    Some(NameList {
+        img: stack.img,
+        place,
+        what: Under::Inode,
+    })
 }

@@ -3,4 +3,5 @@
 
 pub mod child;
 pub mod list;
+pub mod rows;
 pub mod search;

@@ -1,6 +1,6 @@
 -- Two lists of attribute changes merged. Document 01: "attribute by attribute".
 use Rattle.wire.specs.declared.part.Part.{Part}
-use Rattle.std.specs.Prelude.{◌≡◌, List, [], ◌∷◌, ◌++◌, ℕ, zero, suc, ◌+◌, ◌≤◌, ◌<◌, length, drop, None, Option, Some}
+use Rattle.std.specs.Prelude.{◌≡◌, List, [], ◌∷◌, ◌++◌, ℕ, zero, suc, ◌+◌, ◌<◌, ◌≤◌, length, drop, None, Option, Some}
 use Rattle.wire.specs.Parse.{Parsed, fault, got}
 use Rattle.wire.specs.Order.{Order}
 use Rattle.wire.specs.Orders.{by_bytes}
@@ -14,9 +14,10 @@ use Rattle.nodes.specs.Options.{text_at}
 use Rattle.records.specs.Records.{list_bytes}
 use Rattle.change.specs.Sections.{between}
 use Rattle.change.specs.Cuts.{rows_below, rows_above, rows_bytes}
-use Rattle.meld.specs.declared.row.Left.{Left}
+use Rattle.std.specs.Borrow.{Bor}
+use Rattle.meld.specs.declared.left.Left.{Left}
+use Rattle.meld.specs.declared.left.Both.{Both}
 use Rattle.meld.specs.declared.row.Row.{Row}
-use Rattle.meld.specs.declared.merged.Turn.{Turn}
 use Rattle.wire.specs.declared.put.Written.{Written}
 
 -- ---- rows
@@ -45,7 +46,7 @@ rows_read zero s = []
 rows_read (suc n) s = or_end (name.read s) (λ k r. or_end ((maybe value).read r) (λ v q. (k, v) ∷ rows_read n q))
 
 abbrev pub rows_in : Left → List ChangeRow
-rows_in l = rows_read l.count (drop l.first l.bytes.now)
+rows_in l = rows_read l.rows.count (drop l.rows.first l.bytes.now)
 
 -- those of a list, its count first
 abbrev pub rows_at : List ℕ → ℕ → List ChangeRow
@@ -55,15 +56,18 @@ rows_at bytes p = or_end (number_read last_count (drop p bytes)) rows_read
 
 -- the rows of the list at a place
 pub record RowsFrom (bytes : List ℕ) (at : ℕ) (r : Left) : Type 0 where
-  pub few : r.count ≤ last_count
+  pub bytes_are : r.bytes.now ≡ bytes
+  pub few : r.rows.count ≤ last_count
   pub are : rows_in r ≡ rows_at bytes at
 
--- this row is the first, and its bytes are those up to the rows after it
+-- this row is the first, with its bytes, and then the rows after it: they begin where it ends, in the same bytes
 pub record Leads (l : Left) (r : Row) : Type 0 where
   pub change : Option Text
-  pub is : rows_in l ≡ (text_at l.bytes.now r.name, change) ∷ rows_in r.rest
-  pub spells : between l.bytes.now l.first r.rest.first ≡ change_bytes (text_at l.bytes.now r.name, change)
-  pub less : suc r.rest.count ≡ l.count
+  pub is : rows_in l ≡ (r.name.now, change) ∷ rows_in r.rest
+  pub spells : r.bytes.now ≡ change_bytes (r.name.now, change)
+  pub same : r.rest.bytes.now ≡ l.bytes.now
+  pub stands : r.bytes.now ≡ between l.bytes.now l.rows.first r.rest.rows.first
+  pub less : suc r.rest.rows.count ≡ l.rows.count
 
 -- the first row, or there is none
 abbrev pub RowOf : Left → Option Row → Type 0
@@ -73,47 +77,37 @@ RowOf l None = rows_in l ≡ []
 pub record RowIs (l : Left) (r : Option Row) : Type 0 where
   pub is : RowOf l r
 
--- the row given, and then these rows
-abbrev pub own_turn : Left → Row → Left → Turn
-own_turn new upper old = record { bytes = new.bytes; start = new.first; end = upper.rest.first; new = upper.rest; old = old }
-
--- the row of the image, and then what is left
-abbrev pub lower_turn : Left → Left → Row → Turn
-lower_turn new old lower = record { bytes = old.bytes; start = old.first; end = lower.rest.first; new = new; old = lower.rest }
-
 -- the rows of both
-abbrev pub both_rows : Left → Left → List ChangeRow
-both_rows new old = melded by_bytes (rows_in new) (rows_in old)
+abbrev pub both_rows : Both → List ChangeRow
+both_rows b = melded by_bytes (rows_in b.upper) (rows_in b.lower)
 
-abbrev pub turn_bytes : Turn → List ℕ
-turn_bytes r = between r.bytes.now r.start r.end
+-- how many rows are left in both lists
+abbrev pub left_in : Both → ℕ
+left_in b = b.upper.rows.count + b.lower.rows.count
 
--- this turn's row is the next of both
-pub record Goes (new old : Left) (r : Turn) : Type 0 where
+-- these bytes are the next row of both
+pub record Goes (b : Both) (bytes : List ℕ) (rest : Both) : Type 0 where
   pub row : ChangeRow
-  pub is : both_rows new old ≡ row ∷ both_rows r.new r.old
-  pub spells : turn_bytes r ≡ change_bytes row
-  pub less : r.new.count + r.old.count < new.count + old.count
+  pub is : both_rows b ≡ row ∷ both_rows rest
+  pub spells : bytes ≡ change_bytes row
+  pub less : left_in rest < left_in b
 
 -- the next row of both, or there is none
-abbrev pub TurnOf : Left → Left → Option Turn → Type 0
-TurnOf new old (Some r) = Goes new old r
-TurnOf new old None = both_rows new old ≡ []
+abbrev pub GoesIf : Both → Option (Bor (List ℕ)) → Both → Type 0
+GoesIf b (Some bytes) rest = Goes b bytes.now rest
+GoesIf b None rest = both_rows b ≡ []
 
-pub record TurnIs (new old : Left) (r : Option Turn) : Type 0 where
-  pub is : TurnOf new old r
+pub record Gives (b : Both) (r : Option (Bor (List ℕ))) (rest : Both) : Type 0 where
+  pub is : GoesIf b r rest
 
 -- the rows of both are put, and counted
-pub record PutsRows (new old : Left) (buf : List ℕ) (at : ℕ) (r : Written) (end : List ℕ) : Type 0 where
-  pub put : Put buf at (rows_bytes name (maybe value) (both_rows new old)) r.end end
-  pub counts : r.count ≡ length (both_rows new old)
+pub record PutsRows (b : Both) (buf : List ℕ) (at : ℕ) (r : Written) (end : List ℕ) : Type 0 where
+  pub put : Put buf at (rows_bytes name (maybe value) (both_rows b)) r.end end
+  pub counts : r.count ≡ length (both_rows b)
 
 -- rows as a list, the count first
 abbrev pub counted_bytes : List ChangeRow → List ℕ
 counted_bytes l = number_bytes (length l) ++ rows_bytes name (maybe value) l
-
-abbrev pub both_bytes : Left → Left → List ℕ
-both_bytes new old = counted_bytes (both_rows new old)
 
 module _ (img given : List ℕ) where
   -- the lists at two places as one, its count first

@@ -1,122 +1,77 @@
 // Two lists of attribute changes merged: that of the delta given, and that of the image. Of equal names the one given stays.
-ghost use Rattle.std.specs.Prelude.{◌≤◌, ◌≡◌};
-ghost use Rattle.wire.specs.Lists.{last_count};
+ghost use Rattle.std.specs.Prelude.{◌≡◌};
+ghost use Rattle.std.specs.Iterator.{at_most};
 ghost use Rattle.wire.specs.Put.{Put};
-ghost use Rattle.meld.specs.Merged.{Leads, Goes, TurnIs, own_turn, lower_turn, turn_bytes, PutsRows, both_bytes, changes_anew};
+ghost use Rattle.meld.specs.Merged.{Leads, Goes, Gives, left_in, PutsRows, changes_anew};
 
-use crate::row::{Left, Row, all_rows, first_row};
-use change::copy::put_between;
+use crate::left::{Both, Left};
+use crate::row::{Row, all_rows, first_row};
 use records::write_node::put_list_if;
 use std::cmp::Ordering;
-use wire::number::put_number;
-use wire::order::compare_part;
+use wire::order::compare;
 use wire::part::Part;
-use wire::put::{Written, put_part};
+use wire::put::{Written, put_bytes, put_counted, put_part};
 
-// The next row, from `start` to `end` of the bytes that hold its list: two places and no `Part`, as `put_between` takes them.
-// Then the rows left of both lists.
-#[derive(Clone, Copy)]
-pub struct Turn<'a> {
-    pub bytes: &'a [u8],
-    pub start: usize,
-    pub end: usize,
-    pub new: Left<'a>,
-    pub old: Left<'a>,
-}
-
-// The row whose name is less, if there is more; of equal names the one given.
-fn next_turn<'a>(new: Left<'a>, old: Left<'a>) -> Option<Turn<'a>>
-    ensures { TurnIs new.entry old.entry result }
-{
-    let upper = first_row(new);
-    let lower = first_row(old);
-    match upper {
-        Some(above) => match lower {
-            Some(below) => Some(turn_between(new, above, old, below)),
-            None => Some(own_turn(new, above, old)),
-        },
-        None => match lower {
-            Some(below) => Some(lower_turn(new, old, below)),
-            None => None,
-        },
+impl<'a> Both<'a> {
+    // Where both have a row: the one whose name is less; of equal names the upper.
+    fn least(&mut self, upper: Row<'a>, lower: Row<'a>) -> &'a [u8]
+        requires { Leads self.old.upper upper × Leads self.old.lower lower }
+        ensures { Goes self.old result.now self.new }
+    {
+        match compare(upper.name, lower.name) {
+            Ordering::Less => take(&mut self.upper, upper),
+            Ordering::Equal => {
+                self.lower = lower.rest;
+                take(&mut self.upper, upper)
+            }
+            Ordering::Greater => take(&mut self.lower, lower),
+        }
     }
 }
 
-// The same, where both have a row.
-fn turn_between<'a>(new: Left<'a>, upper: Row<'a>, old: Left<'a>, lower: Row<'a>) -> Turn<'a>
-    requires { Leads new upper × Leads old lower }
-    ensures { Goes new.entry old.entry result }
+// Takes the first row: answers its bytes, and moves the list past it.
+fn take<'a>(left: &mut Left<'a>, row: Row<'a>) -> &'a [u8]
+    ensures { (result.now ≡ row.entry.bytes.now) × (left.new ≡ row.entry.rest) }
 {
-    let below = lower.rest;
-    let other = lower.name.of(old.bytes);
-    match compare_part(new.bytes, upper.name, other) {
-        Ordering::Less => own_turn(new, upper, old),
-        Ordering::Equal => own_turn(new, upper, below),
-        Ordering::Greater => lower_turn(new, old, lower),
+    *left = row.rest;
+    row.bytes
+}
+
+// The bytes of each row, one after the other.
+impl<'a> Iterator for Both<'a> {
+    type Item = &'a [u8];
+
+    ghost next_gives = { Gives };
+
+    ghost remaining = { λ s. at_most (left_in s) };
+
+    fn next(&mut self) -> Option<&'a [u8]> {
+        let first = first_row(self.upper);
+        let second = first_row(self.lower);
+        match (first, second) {
+            (Some(upper), Some(lower)) => Some(self.least(upper, lower)),
+            (Some(upper), None) => Some(take(&mut self.upper, upper)),
+            (None, Some(lower)) => Some(take(&mut self.lower, lower)),
+            (None, None) => None,
+        }
     }
 }
 
-// The row given, and then these.
-fn own_turn<'a>(new: Left<'a>, upper: Row<'a>, old: Left<'a>) -> Turn<'a>
-    ensures { result ≡ own_turn new.entry upper.entry old.entry }
+// Writes the rows of both lists, without their count. Not one with fold's `put_rows`: its contract would have to say any iterator's items.
+fn put_rows(buf: &mut [u8], at: usize, both: Both) -> Written
+    ensures { PutsRows both.entry buf.old at result buf.new }
 {
-    Turn {
-        bytes: new.bytes,
-        start: new.first,
-        end: upper.rest.first,
-        new: upper.rest,
-        old,
-    }
-}
-
-// The row of the image, and then what is left.
-fn lower_turn<'a>(new: Left<'a>, old: Left<'a>, lower: Row<'a>) -> Turn<'a>
-    ensures { result ≡ lower_turn new.entry old.entry lower.entry }
-{
-    Turn {
-        bytes: old.bytes,
-        start: old.first,
-        end: lower.rest.first,
-        new,
-        old: lower.rest,
-    }
-}
-
-fn put_turn(buf: &mut [u8], at: usize, turn: Turn) -> usize
-    ensures { Put buf.old at (turn_bytes turn.entry) result buf.new }
-{
-    put_between(buf, at, turn.bytes, turn.start, turn.end)
-}
-
-// Writes the rows of both lists, without their count.
-fn put_merged_rows(buf: &mut [u8], at: usize, new: Left, old: Left) -> Written
-    requires { (new.count ≤ last_count) × (old.count ≤ last_count) }
-    ensures { PutsRows new.entry old.entry buf.old at result buf.new }
-{
-    let mut next = next_turn(new, old);
     let mut end = at;
     let mut count: u64 = 0;
-    while let Some(turn) = next {
-        end = put_turn(buf, end, turn);
+    for row in both {
+        end = put_bytes(buf, end, row);
         count += 1;
-        next = next_turn(turn.new, turn.old);
     }
     Written { end, count }
 }
 
-// Writes the two lists as one, the count first.
-fn put_merged(buf: &mut [u8], at: usize, new: Left, old: Left) -> usize
-    requires { (new.count ≤ last_count) × (old.count ≤ last_count) }
-    ensures { Put buf.old at (both_bytes new.entry old.entry) result buf.new }
-{
-    let mut none = [0u8; 0];
-    let counted = put_merged_rows(&mut none, 0, new, old);
-    let first = put_number(buf, at, counted.count);
-    let rows = put_merged_rows(buf, first, new, old);
-    rows.end
-}
-
-// Writes the attribute changes of both, if one has any.
+// Writes the attribute changes of both, if one has any: `new` stands in `given`, `old` in `img`. No two pairs of list and bytes: the bytes come
+// in a `Copied` (overlay), the lists in an `Updated`.
 pub fn put_changes(
     buf: &mut [u8],
     at: usize,
@@ -133,7 +88,9 @@ pub fn put_changes(
     let Some(below) = old else {
         return put_part(buf, at, given, above);
     };
-    let over = all_rows(given, above.start);
-    let under = all_rows(img, below.start);
-    put_merged(buf, at, over, under)
+    let both = Both {
+        upper: all_rows(given, above.start),
+        lower: all_rows(img, below.start),
+    };
+    put_counted(buf, at, |buf, at| put_rows(buf, at, both))
 }

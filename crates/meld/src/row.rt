@@ -1,23 +1,17 @@
 // Rows of a list of attribute changes.
 ghost use Rattle.meld.specs.Merged.{RowsFrom, RowIs};
 
+use crate::left::Left;
 use image::field::LAST_WORD;
-use image::name::{Under, pass_under, read_name};
-use image::rows::rows_at;
+use image::name::{Under, read_row};
+use image::rows::{Rows, rows_at};
 use wire::part::Part;
 
-// The rows that are left of a list: `count` of them, the first at `first` of the bytes that hold the list.
-#[derive(Clone, Copy)]
-pub struct Left<'a> {
-    pub bytes: &'a [u8],
-    pub first: usize,
-    pub count: u64,
-}
-
-// The first of the rows that are left: its name, and the rows after it.
+// The first of the rows that are left: its name, all its bytes, and the rows after it.
 #[derive(Clone, Copy)]
 pub struct Row<'a> {
-    pub name: Part,
+    pub name: &'a [u8],
+    pub bytes: &'a [u8],
     pub rest: Left<'a>,
 }
 
@@ -26,26 +20,25 @@ pub fn all_rows(bytes: &[u8], at: usize) -> Left
     ensures { RowsFrom bytes.now at result }
 {
     let rows = rows_at(bytes, at, LAST_WORD);
-    Left {
-        bytes,
-        first: rows.first,
-        count: rows.count,
-    }
+    Left { bytes, rows }
 }
 
 // The first row, if there is one.
 pub fn first_row(left: Left) -> Option<Row>
     ensures { RowIs left.entry result }
 {
-    if left.count == 0 {
-        return None;
-    }
-    let (name, start) = read_name(left.bytes, left.first).ok()?;
-    let first = pass_under(left.bytes, start, Under::Change).ok()?;
-    let rest = Left {
-        first,
-        count: left.count - 1,
-        ..left
+    let count = left.rows.count.checked_sub(1)?;
+    let row = read_row(left.bytes, left.rows.first, Under::Change).ok()?;
+    let rows = Rows {
+        first: row.next,
+        count,
     };
-    Some(Row { name, rest })
+    Some(Row {
+        name: row.name.of(left.bytes),
+        bytes: Part::between(left.rows.first, row.next).of(left.bytes),
+        rest: Left {
+            bytes: left.bytes,
+            rows,
+        },
+    })
 }

@@ -1,11 +1,10 @@
 -- How many names sources give at most.
 -- Assumes nothing.
 use Rattle.std.specs.Prelude.{None, Option, Some}
-use mathlib.Core.Path.{◌≡◌, refl, ap}
 use mathlib.Core.List.{List, [], ◌∷◌, ◌++◌}
 use Prim.Native.Nat.{ℕ, zero, suc, ◌+◌, ◌*◌, ◌≤◌}
 use native.Mathlib.Omega.{arith}
-use lib.ListN.{length, drop, length-take}
+use lib.ListN.{length, drop, length-take, length-map}
 use Rattle.std.specs.declared.cmp.Ordering.{Ordering}
 use Rattle.std.specs.declared.cmp.Ordering.TheVariants.{Less, Equal, Greater}
 use Rattle.wire.specs.Order.{Order}
@@ -20,9 +19,8 @@ use Rattle.image.specs.FieldLayout.{name}
 use Rattle.image.specs.Under.{UnderName, under}
 use Rattle.image.specs.declared.name.Under.{Under}
 use Rattle.merge.specs.Pile.{laid, pile, total, itself}
-use Rattle.merge.specs.Sources.{Decided, decided, rows_if, rows_from, sources_of, Short}
+use Rattle.merge.specs.Sources.{Decided, decided, rows_if, rows_from, source_rows, sources_of, Short}
 use Rattle.merge.specs.Merges.{listed, given_in}
-use Rattle.merge.specs.declared.source.Source.{Source}
 use Rattle.merge.specs.declared.sources.Sources.{Sources}
 
 module _ {K : Type 0} (O : Order K) {A : Type 0} where
@@ -81,14 +79,10 @@ unfolding total
 total-few [] h = omega arith
 total-few (s ∷ ss) h = let few = h.0 in omega (arith, few, total-few ss h.1)
 
-sources-many : (img : List ℕ) (l : List Source) → length (sources_of img l) ≡ length l
-sources-many img [] = refl
-sources-many img (s ∷ l) = ap suc (sources-many img l)
-
 -- a number holds how many names are given
 pub given-few : (all : Sources) → Every Short (sources_of all.img.now (listed all)) → length (given_in all) ≤ edge
 given-few all short =
-    let few = all.few in
+    let few = all.lists.few in
     let n : length (listed all) ≤ 35 = rw length-take (omega arith) in
     let ss = sources_of all.img.now (listed all) in
-    omega (arith, pile-few by_bytes (itself by_bytes) ss, total-few ss short, sources-many all.img.now (listed all), n)
+    omega (arith, pile-few by_bytes (itself by_bytes) ss, total-few ss short, length-map (listed all) (source_rows all.img.now), n)

@@ -6,17 +6,15 @@ use mathlib.Core.List.{List, [], ◌∷◌, ◌++◌, map, append_assoc, append-
 use Prim.Native.Nat.{ℕ, zero, suc, ◌+◌, ◌-◌, ◌≤◌, ◌<◌}
 use native.Mathlib.Omega.{arith}
 use native.Mathlib.Numerals.{add-one}
+use Rattle.std.proofs.lemmas.List.{map-append}
 use lib.ListN.{length, take, get_or, set}
-use Rattle.std.specs.declared.cmp.Ordering.{Ordering}
-use Rattle.std.specs.declared.cmp.Ordering.TheVariants.{Less, Equal, Greater}
 use Rattle.wire.specs.declared.part.Part.{Part}
 use Rattle.wire.specs.Orders.{by_bytes}
-use Rattle.wire.specs.Rows.{choose}
 use Rattle.image.specs.Meaning.{Text}
 use Rattle.nodes.specs.Options.{text_at}
 use Rattle.rules.specs.Changes.{map_if}
 use Rattle.merge.specs.Pile.{pass, pass_all, first, least}
-use Rattle.merge.specs.Sources.{Decided, rows_from, source_rows, sources_of, row_at, head_rows, HeadOf}
+use Rattle.merge.specs.Sources.{Decided, source_rows, sources_of, row_at, head_rows, HeadOf}
 use Rattle.merge.specs.Merges.{in_order, Pushes, Upper, Least, Passed, PassedAll}
 use Rattle.merge.specs.declared.source.Source.{Source}
 use Rattle.merge.specs.declared.read.Head.{Head}
@@ -26,10 +24,6 @@ use Rattle.merge.specs.declared.merge.AtMostTwo.TheVariants as F
 
 -- ---- lists more
 
-pub map_append : {A B : Type 0} (f : A → B) (l m : List A) → map f (l ++ m) ≡ map f l ++ map f m
-map_append f [] m = refl
-map_append f (a ∷ l) m = rw (map_append f l m)
-
 pub many-two : (f : AtMostTwo) → length (in_order f) ≤ 2
 many-two F.None = omega arith
 many-two (F.One s) = omega arith
@@ -38,34 +32,7 @@ many-two (F.Two s t) = omega arith
 -- the rows after lists more
 pub sources-more : (img : List ℕ) {all r : Lists} {l : List Source} → Pushes all l r
     → sources_of img (take r.count r.rows) ≡ sources_of img (take all.count all.rows) ++ sources_of img l
-sources-more img {all} {r} {l} p = rw p.are (map_append (source_rows img) (take all.count all.rows) l)
-
--- ---- past a name
-
-module _ {img : List ℕ} (s : Source) {h : Option Head} (f : HeadOf img s.what s.left s.at h) where
-  pub passed_none : {name : Part} → h ≡ None → Passed img s name s
-  unfolding pass
-  passed_none e =
-      let z : source_rows img s ≡ [] = rw e at f.are in
-      record { is = rw z }
-
-  module _ {a : Head} (k : h ≡ Some a) where
-    here : source_rows img s ≡ row_at img a ∷ rows_from img s.what (s.left - 1) a.next
-    here = rw k at f.are
-
-    module _ {name : Part} {o : Ordering} {n : List ℕ} (d : o ≡ by_bytes.cmp (text_at img name) n) (e : n ≡ text_at img a.name) where
-      pub passed-other : (o ≡ Equal → ⊥) → Passed img s name s
-      unfolding pass
-      passed-other g = record { is = rw (here, ← e, ← d) (go o g _) }
-        where
-          go : {A : Type 0} {x : A} (o : Ordering) → (o ≡ Equal → ⊥) → (y : A) → x ≡ choose o y x
-          go Less g y = refl
-          go Equal g y = absurd (g refl)
-          go Greater g y = refl
-
-      pub passed-equal : (r : Source) → r.at ≡ a.next → r.left ≡ s.left - 1 → r.what ≡ s.what → o ≡ Equal → Passed img s name r
-      unfolding pass
-      passed-equal r i j k g = record { is = rw (here, ← e, ← d, g, i, j, k) }
+sources-more img {all} {r} {l} p = rw p.are (map-append (source_rows img) (take all.count all.rows) l)
 
 -- ---- the least name: of those seen, which are the last, it is that of best
 
@@ -75,10 +42,11 @@ pub record Best (img : List ℕ) (l rest : List Source) (best : Option Head) : T
   pub is : Least img seen best
 
 -- the row that stands first
-first-is : {img : List ℕ} (s : Source) {h : Option Head} → HeadOf img s.what s.left s.at h → first by_bytes (source_rows img s) ≡ map_if (row_at img) h
+first-is : {img : List ℕ} (s : Source) {h : Option Head} → HeadOf img s.what s.rows.count s.rows.first h
+    → first by_bytes (source_rows img s) ≡ map_if (row_at img) h
 first-is {img} s {h} d = go h d.are
   where
-    go : (h : Option Head) → source_rows img s ≡ head_rows img s.what (s.left - 1) h → first by_bytes (source_rows img s) ≡ map_if (row_at img) h
+    go : (h : Option Head) → source_rows img s ≡ head_rows img s.what (s.rows.count - 1) h → first by_bytes (source_rows img s) ≡ map_if (row_at img) h
     go (Some a) e = rw e
     go None e = rw e
 
@@ -88,7 +56,7 @@ best_none img l = record { seen = []; are = sym (append-nil l); is = record { is
 
 -- the source before joins
 pub best-more : {img : List ℕ} {l rest next : List Source} (s : Source) {best h r : Option Head} → Best img l rest best → rest ≡ next ++ s ∷ []
-    → HeadOf img s.what s.left s.at h → Upper img h best r → Best img l next r
+    → HeadOf img s.what s.rows.count s.rows.first h → Upper img h best r → Best img l next r
 unfolding least
 best-more {next = next} s b e f u = record {
   seen = s ∷ b.seen;

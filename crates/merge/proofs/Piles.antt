@@ -3,7 +3,7 @@
 use Rattle.std.specs.Prelude.{None, Option, Some}
 use mathlib.Core.Path.{◌≡◌, subst, refl, sym as inverse, ◌∙◌}
 use mathlib.Core.List.{List, [], ◌∷◌}
-use Prim.Native.Nat.{ℕ, ◌≤◌, ◌<◌}
+use Prim.Native.Nat.{◌≤◌, ◌<◌}
 use native.Mathlib.Omega.{arith}
 use lib.ListN.{length}
 use Rattle.std.specs.declared.cmp.Ordering.{Ordering}
@@ -25,13 +25,13 @@ module _ {K : Type 0} (O : Order K) where
   low-less a b c h (less g) = less (O.trans a b c h g)
 
   none-lower : (a : K) (o : Option K) → lower O (Some a) o ≡ None → ⊥
-  none-lower a None h = let z : ◌≡◌ {A = ℕ} 0 1 = cc in omega arith
+  none-lower a None h = cc
   none-lower a (Some b) h = go (O.cmp a b) h
     where
       go : (d : Ordering) → pick_key O d a b ≡ None → ⊥
-      go Less h = let z : ◌≡◌ {A = ℕ} 0 1 = cc in omega arith
-      go Equal h = let z : ◌≡◌ {A = ℕ} 0 1 = cc in omega arith
-      go Greater h = let z : ◌≡◌ {A = ℕ} 0 1 = cc in omega arith
+      go Less h = cc
+      go Equal h = cc
+      go Greater h = cc
 
 module _ {K : Type 0} (O : Order K) {C : Type 0} where
   abbrev From : K → List (K × C) → Type 0
@@ -84,7 +84,7 @@ module _ {K : Type 0} (O : Order K) {C : Type 0} where
   -- no key is below the least
   least-from : (ss : List (List (K × C))) (k : K) → least_key O ss ≡ Some k → FromAll k ss
   unfolding least_key
-  least-from [] k h = absurd (let z : ◌≡◌ {A = ℕ} 0 1 = cc in omega arith)
+  least-from [] k h = cc
   least-from ([] ∷ ss) k h = (tt, least-from ss k h)
   least-from ((u ∷ s) ∷ ss) k h = go (least_key O ss) refl h (least-from ss)
     where
@@ -100,6 +100,7 @@ module _ {K : Type 0} (O : Order K) {C : Type 0} where
           choice Equal q h f = here (rw (O.same u.0 b q) f) h
           choice Greater q h f = let z : b ≡ k = cc in subst (λ (j : K). FromAll j ((u ∷ s) ∷ ss)) z (less (O.flip u.0 b q), f)
 
+  -- the rows that are left are no more
   length-pass : (k : K) (s : List (K × C)) → length (pass O k s) ≤ length s
   unfolding pass
   length-pass k [] = omega arith
@@ -118,7 +119,7 @@ module _ {K : Type 0} (O : Order K) {C : Type 0} where
   -- the least key is somewhere
   pub pile-fewer : (ss : List (List (K × C))) (k : K) → least_key O ss ≡ Some k → total (pass_all O k ss) < total ss
   unfolding least_key pass_all pass total
-  pile-fewer [] k h = absurd (let z : ◌≡◌ {A = ℕ} 0 1 = cc in omega arith)
+  pile-fewer [] k h = cc
   pile-fewer ([] ∷ ss) k h = omega (arith, pile-fewer ss k h)
   pile-fewer ((u ∷ s) ∷ ss) k h = go (least_key O ss) refl h (pile-fewer ss)
     where
@@ -251,8 +252,8 @@ module _ {K : Type 0} (O : Order K) {C : Type 0} where
         lookup-row j (Some a) = rw (below j)
 
         at : (j : K) (d : Ordering) → O.cmp j k ≡ d → look j ss ≡ choose (O.cmp j k) (answer O g k ss) (look j (pass_all O k ss))
-        at j Less q = rw q (inverse (look-pass j k ss (λ p. let z : ◌≡◌ {A = ℕ} 0 1 = cc in omega arith)))
-        at j Greater q = rw q (inverse (look-pass j k ss (λ p. let z : ◌≡◌ {A = ℕ} 0 1 = cc in omega arith)))
+        at j Less q = rw q (inverse (look-pass j k ss (λ p. cc)))
+        at j Greater q = rw q (inverse (look-pass j k ss (λ p. cc)))
         at j Equal q = rw q (rw (O.same j k q) (look-answer k ss r f))
 
     -- ---- the pile of maps is their merge

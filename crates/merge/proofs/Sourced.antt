@@ -136,10 +136,9 @@ module _ {img : List ℕ} {u : Under} {n p : ℕ} {o : Result (Part × ℕ) Faul
 
 -- ---- a list, its count first
 
-pub list-read : {img : List ℕ} {u : Under} {p : ℕ} {r : Rows} → RowsAt img last_count p r → (s : Source) → s.at ≡ r.first → s.left ≡ r.count → s.what ≡ u
-    → ListOf img u p s
+pub list-read : {img : List ℕ} {u : Under} {p : ℕ} {r : Rows} → RowsAt img last_count p r → (s : Source) → s.rows ≡ r → s.what ≡ u → ListOf img u p s
 unfolding rows_from
-list-read {img} {u} {p} {r} h s i j k = record { are = rw (i, j, k) (go (number_read last_count (drop p img)) refl) }
+list-read {img} {u} {p} {r} h s i j = record { are = rw (i, j) (go (number_read last_count (drop p img)) refl) }
   where
     go : (o : Parsed ℕ) → number_read last_count (drop p img) ≡ o
         → rows_from img u r.count r.first ≡ rows_if o (λ n. rows_from img u n (p + length (number_bytes n)))

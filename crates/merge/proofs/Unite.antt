@@ -3,8 +3,7 @@
 use Rattle.std.specs.Prelude.{None, Option, Some}
 use mathlib.Core.Path.{◌≡◌, refl, ◌∙◌}
 use mathlib.Core.List.{List, [], ◌∷◌}
-use Prim.Native.Nat.{ℕ, ◌<◌}
-use native.Mathlib.Omega.{arith}
+use Prim.Native.Nat.{◌<◌}
 use Rattle.std.specs.declared.cmp.Ordering.{Ordering}
 use Rattle.std.specs.declared.cmp.Ordering.TheVariants.{Less, Equal, Greater}
 use Rattle.wire.specs.Order.{Order}
@@ -28,7 +27,7 @@ module _ {K : Type 0} (O : Order K) {A : Type 0} where
 
   least-says : (ss : List (List (K × Option A))) (e : K × Option A) → least O ss ≡ Some e → Says ss e
   unfolding least least_key answer
-  least-says [] e h = absurd (let z : ◌≡◌ {A = ℕ} 0 1 = cc in omega arith)
+  least-says [] e h = cc
   least-says ([] ∷ ss) e h = let i = least-says ss e h in record { key = i.key; says = i.says }
   least-says ((u ∷ s) ∷ ss) e h = go (least O ss) refl h (least-says ss)
     where

@@ -16,11 +16,6 @@ use Rattle.merge.specs.declared.sources.Sources.{Sources}
 use Rattle.merge.specs.declared.merge.AtMostTwo.{AtMostTwo}
 use Rattle.merge.specs.declared.merge.AtMostTwo.TheVariants as F
 use Rattle.merge.specs.declared.merge.Row.{Row as GivenRow}
-use Rattle.merge.specs.declared.merge.Merge.{Merge}
-
--- the sources, the topmost first
-abbrev pub listed : Sources → List Source
-listed all = take all.count all.rows
 
 -- the list of a part, as a source
 abbrev pub lists_if : List ℕ → Under → Option Part → List (List Decided)
@@ -39,6 +34,10 @@ rows_in img lists = sources_of img (in_order lists)
 -- the lists that were pushed, the topmost first
 abbrev pub lists_in : Lists → List Source
 lists_in all = take all.count all.rows
+
+-- the sources, the topmost first
+abbrev pub listed : Sources → List Source
+listed all = lists_in all.lists
 
 -- lists more, beneath the others
 pub record Pushes (all : Lists) (lists : List Source) (r : Lists) : Type 0 where
@@ -108,9 +107,6 @@ pub record Gives (all : Sources) (first : Option GivenRow) (rest : Sources) : Ty
   pub image : rest.img.now ≡ all.img.now
   pub gives : given_in all ≡ gives_from first rest
   pub rows : rows_decided all ≡ with_first row_of_given first (rows_decided rest)
-
-abbrev pub Settles : Sources → Merge → Type 0
-Settles all m = Gives all m.first m.all
 
 -- how many rows there are, if there is room for them
 abbrev pub count_of : ℕ → ℕ → Option ℕ

@@ -57,7 +57,7 @@ list_rows img u p = rows_if (number_read last_count (drop p img)) (λ n. rows_fr
 
 -- the rows of a source
 abbrev pub source_rows : List ℕ → Source → List Decided
-source_rows img s = rows_from img s.what s.left s.at
+source_rows img s = rows_from img s.what s.rows.count s.rows.first
 
 -- the rows of each
 abbrev pub sources_of : List ℕ → List Source → List (List Decided)

@@ -2,18 +2,20 @@
 ghost use Rattle.std.specs.Prelude.{◌+◌, ◌≤◌, ◌≡◌, [], ◌∷◌, length, take};
 ghost use Rattle.std.specs.Iterator.{at_most};
 ghost use Rattle.merge.specs.Sources.{Rise};
-ghost use Rattle.merge.specs.Merges.{in_order, Pushes, lists_if, rows_in, Upper, Least, Passed, PassedAll};
-ghost use Rattle.merge.specs.Merges.{given_in, rows_decided, GivesFrom, Gives, Settles, count_of};
+ghost use Rattle.merge.specs.Merges.{in_order, Pushes, lists_if, lists_in, rows_in, Upper, Least, Passed, PassedAll};
+ghost use Rattle.merge.specs.Merges.{given_in, rows_decided, GivesFrom, Gives, count_of};
 
 use crate::read::{Given, Head, head_of, source_at};
 use crate::source::Source;
-use crate::sources::{Lists, Sources};
+use crate::sources::{Lists, MOST_LISTS, Sources};
 use image::name::Under;
+use image::rows::Rows;
 use std::cmp::Ordering;
 use wire::order::compare_part;
 use wire::part::Part;
 
-// The lists of a record or of a node, the upper first. No `Vec`: the project has no heap.
+// The lists of one record or of one node, the upper first: at most two. No `Vec`: the project has no heap. Who finds them hands them back
+// as a value, and the gathering loop pushes them; so what a record has is said by itself, without the lists of the records before it.
 #[derive(Clone, Copy)]
 pub enum AtMostTwo {
     None,
@@ -28,24 +30,33 @@ pub struct Row {
     pub given: Given,
 }
 
-// The first name that is given, if there is one, and the sources past it.
-#[derive(Clone, Copy)]
-pub struct Merge<'a> {
-    pub first: Option<Row>,
-    pub all: Sources<'a>,
-}
+impl Lists {
+    pub fn new() -> Lists
+        ensures { result.count ≡ 0 }
+    {
+        let none = Source {
+            rows: Rows { first: 0, count: 0 },
+            what: Under::Nothing,
+        };
+        Lists {
+            rows: [none; MOST_LISTS],
+            count: 0,
+        }
+    }
 
-pub fn no_lists() -> Lists
-    ensures { result.count ≡ 0 }
-{
-    let ended = Source {
-        at: 0,
-        left: 0,
-        what: Under::Nothing,
-    };
-    Lists {
-        rows: [ended; 35],
-        count: 0,
+    // Lists more, beneath the others.
+    pub fn push(&mut self, lists: AtMostTwo)
+        requires { self.old.count + length (in_order lists) ≤ 35 }
+        ensures { Pushes self.old (in_order lists) self.new }
+    {
+        match lists {
+            AtMostTwo::None => {}
+            AtMostTwo::One(source) => push_source(self, source),
+            AtMostTwo::Two { over, under } => {
+                push_source(self, over);
+                push_source(self, under);
+            }
+        }
     }
 }
 
@@ -56,21 +67,6 @@ fn push_source(all: &mut Lists, source: Source)
 {
     all.rows[all.count] = source;
     all.count += 1;
-}
-
-// Lists more, beneath the others.
-pub fn push_lists(all: &mut Lists, lists: AtMostTwo)
-    requires { all.old.count + length (in_order lists) ≤ 35 }
-    ensures { Pushes all.old (in_order lists) all.new }
-{
-    match lists {
-        AtMostTwo::None => {}
-        AtMostTwo::One(source) => push_source(all, source),
-        AtMostTwo::Two { over, under } => {
-            push_source(all, over);
-            push_source(all, under);
-        }
-    }
 }
 
 // The list at a part of the image, if there is one.
@@ -93,14 +89,15 @@ fn upper(img: &[u8], over: Option<Head>, under: Option<Head>) -> Option<Head>
     let Some(second) = under else {
         return over;
     };
-    match compare_part(img, first.name, second.name.of(img)) {
-        Ordering::Less => over,
-        Ordering::Equal => over,
-        Ordering::Greater => under,
+    if compare_part(img, first.name, second.name.of(img)).is_le() {
+        over
+    } else {
+        under
     }
 }
 
-// The least name that stands first, as the topmost of the sources that have it says.
+// The least name that stands first, as the topmost of the sources that have it says. A loop and no `min_by`: the law of a merge goes by one source at a
+// time, as this does.
 fn least(img: &[u8], sources: &[Source]) -> Option<Head>
     ensures { Least img.now sources.now result }
 {
@@ -111,24 +108,25 @@ fn least(img: &[u8], sources: &[Source]) -> Option<Head>
     best
 }
 
-// The source past the name, if it is at it.
+// The source past its first row, if that has the name; else as it is.
+#[tactic(auto, unfolding(crate::specs::Pile::pass))]
 fn passed(img: &[u8], source: Source, name: Part) -> Source
     ensures { Passed img.now source name result }
 {
     let Some(head) = head_of(img, source) else {
         return source;
     };
-    if let Ordering::Equal = compare_part(img, name, head.name.of(img)) {
-        return Source {
-            at: head.next,
-            left: source.left - 1,
-            what: source.what,
+    if compare_part(img, name, head.name.of(img)).is_eq() {
+        let rows = Rows {
+            first: head.next,
+            count: source.rows.count - 1,
         };
+        return Source { rows, ..source };
     }
     source
 }
 
-// Moves each source past the name, if it is at it.
+// Moves each source past its first row, if that has the name.
 fn pass_all(img: &[u8], sources: &mut [Source], name: Part)
     ensures { PassedAll img.now sources.old name sources.new }
 {
@@ -137,8 +135,9 @@ fn pass_all(img: &[u8], sources: &mut [Source], name: Part)
     }
 }
 
-// The first name that is given, if there is one; the sources, `count` of the rows, are moved past it.
-fn next_given(img: &[u8], rows: &mut [Source; 35], count: usize) -> Option<Row>
+// The first name that is given, if there is one. The sources are the first `count` of the array; they are moved past the name. It takes the
+// array and the count, since a slice of an array can't be lent out of a struct with a ghost field.
+fn next_given(img: &[u8], rows: &mut [Source; MOST_LISTS], count: usize) -> Option<Row>
     requires { (count ≤ 35) × Rise img.now (take count rows.old) }
     ensures { GivesFrom img.now (take count rows.old) result (take count rows.new) }
 {
@@ -153,6 +152,14 @@ fn next_given(img: &[u8], rows: &mut [Source; 35], count: usize) -> Option<Row>
     None
 }
 
+// The same for `Lists`. `Sources` can lend its lists, but not the array in them: a field of a field can't be lent.
+fn next_of(img: &[u8], all: &mut Lists) -> Option<Row>
+    requires { Rise img.now (lists_in all.old) }
+    ensures { GivesFrom img.now (lists_in all.old) result (lists_in all.new) }
+{
+    next_given(img, &mut all.rows, all.count)
+}
+
 // The names that are given, one after the other.
 impl Iterator for Sources<'_> {
     type Item = Row;
@@ -162,20 +169,12 @@ impl Iterator for Sources<'_> {
     ghost remaining = { λ s. at_most (length (given_in s)) };
 
     fn next(&mut self) -> Option<Row> {
-        next_given(self.img, &mut self.rows, self.count)
+        next_of(self.img, &mut self.lists)
     }
 }
 
-// The first row apart from the others.
-pub fn settle(all: Sources) -> Merge
-    ensures { Settles all.entry result }
-{
-    let mut rest = all;
-    let first = rest.next();
-    Merge { first, all: rest }
-}
-
-// How many rows there are; none, if they are more than `room`.
+// How many rows there are; none, if they are more than `room`. Not the iterator's `count`, which reads all rows, nor `take(room).count()`, after which
+// the sources would have to be asked once more whether that was all.
 pub fn count_rows(all: Sources, room: usize) -> Option<usize>
     ensures { result ≡ count_of (length (rows_decided all.entry)) room }
 {

@@ -1,4 +1,4 @@
-// How a source is read: its first row, and the list that it begins as.
+// How a list in the image is made a source, and how the first row of a source is read.
 ghost use Rattle.std.specs.Prelude.{◌≡◌, ◌≤◌, length};
 ghost use Rattle.std.specs.Result.{result_ok};
 ghost use Rattle.wire.specs.Reading.{Reads, meant};
@@ -12,9 +12,8 @@ use nodes::field::{ReadField, read_maybe};
 use wire::fault::Fault;
 use wire::part::Part;
 
-// What a name is given: an entry its inode, an attribute its value. The other is 0, or an empty text. No enum: a list of entries gives inodes
-// and one of attributes values, so who reads a row knows which it is, and would have to answer for the other;
-// a listing for C has an inode of 0 for an attribute.
+// What a name is given: in a list of entries an inode, and the value is empty; in a list of attributes a value, and the inode is 0, which is
+// also what a C caller is shown. No enum: who reads a row knows which list it is of, and would have to say what to do in the other case too.
 #[derive(Clone, Copy)]
 pub struct Given {
     pub inode: u64,
@@ -29,18 +28,8 @@ pub struct Head {
     pub next: usize,
 }
 
-// An empty text.
-pub fn no_value() -> Part
-    ensures { (result.start ≡ 0) × (result.length ≡ 0) }
-{
-    Part {
-        start: 0,
-        length: 0,
-    }
-}
-
-// What stands under a name: what the name is given, unless it is removed; and the place after it. A `match`, and
-// the place in the image, as in `pass_under`.
+// Reads what stands under a name: what the name is given, unless it is removed; and the place after it. Why this is a `match`, and why a
+// clause says that the place is in the image: see `pass_under` (image).
 fn read_given(img: &[u8], at: usize, what: Under) -> Result<(Option<Given>, usize), Fault>
     requires { at ≤ length img.now }
     ensures { Reads img.now (chosen_read what) at (meant (given_if img.now) result) }
@@ -49,8 +38,11 @@ fn read_given(img: &[u8], at: usize, what: Under) -> Result<(Option<Given>, usiz
         Under::Nothing => Ok((None, at)),
         Under::Inode => {
             let (inode, next) = Inode::read(img, at)?;
-            let value = no_value();
-            Ok((Some(Given { inode, value }), next))
+            let given = Given {
+                inode,
+                value: Part::EMPTY,
+            };
+            Ok((Some(given), next))
         }
         Under::Value => {
             let (value, next) = XattrValue::read(img, at)?;
@@ -68,9 +60,9 @@ fn read_given(img: &[u8], at: usize, what: Under) -> Result<(Option<Given>, usiz
 
 // The first row of a source, if there is one.
 pub fn head_of(img: &[u8], source: Source) -> Option<Head>
-    ensures { HeadOf img.now source.what source.left source.at result }
+    ensures { HeadOf img.now source.what source.rows.count source.rows.first result }
 {
-    if source.left == 0 {
+    if source.rows.count == 0 {
         return None;
     }
     first_row(img, source).ok()
@@ -78,22 +70,18 @@ pub fn head_of(img: &[u8], source: Source) -> Option<Head>
 
 // The first row of a source that has one left.
 fn first_row(img: &[u8], source: Source) -> Result<Head, Fault>
-    requires { source.left ≡ 0 → ⊥ }
-    ensures { HeadOf img.now source.what source.left source.at (result_ok result) }
+    requires { source.rows.count ≡ 0 → ⊥ }
+    ensures { HeadOf img.now source.what source.rows.count source.rows.first (result_ok result) }
 {
-    let (name, named) = read_name(img, source.at)?;
+    let (name, named) = read_name(img, source.rows.first)?;
     let (given, next) = read_given(img, named, source.what)?;
     Ok(Head { name, given, next })
 }
 
-// The source of the list at `at`; of one that isn't read, it has no rows.
+// The list at `at` as a source, with all its rows; with none, if the count isn't read.
 pub fn source_at(img: &[u8], at: usize, what: Under) -> Source
     ensures { ListOf img.now what at result }
 {
     let rows = rows_at(img, at, LAST_WORD);
-    Source {
-        at: rows.first,
-        left: rows.count,
-        what,
-    }
+    Source { rows, what }
 }

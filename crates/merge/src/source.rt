@@ -1,10 +1,10 @@
-// A source: a list by name in the image, at one of its rows.
+// A source: a list by name in the image, and which rows of it are left.
 use image::name::Under;
+use image::rows::Rows;
 
-// A list by name, of which `left` rows stand from `at` on.
+// The rows of a list by name that are left, and what stands under each name.
 #[derive(Clone, Copy)]
 pub struct Source {
-    pub at: usize,
-    pub left: u64,
+    pub rows: Rows,
     pub what: Under,
 }

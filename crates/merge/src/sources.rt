@@ -4,20 +4,22 @@ ghost use Rattle.merge.specs.Sources.{Rise, Rise-prop};
 
 use crate::source::Source;
 
-// Lists, `count` of them, the topmost first: at most two of each record, and one of the base. No `Vec`: the project has no heap.
+// The most lists that an inode has: two of each of its 17 records, and one of the base.
+pub const MOST_LISTS: usize = 35;
+
+// Lists, `count` of them, the topmost first. No `Vec`: the project has no heap; no `ArrayVec`, as in `InodeLayerStack` (survey).
+// Not one type with that and with `Runs` (walk), over the element and the size: how far each may grow is a clause of its own.
 #[derive(Clone, Copy)]
 pub struct Lists {
-    pub rows: [Source; 35],
+    pub rows: [Source; MOST_LISTS],
     pub count: usize,
     ghost few: { count ≤ 35 },
 }
 
-// The sources of a listing, `count` lists of an image, the topmost first. The names of each rise.
+// The sources of a listing: lists of an image. The names of each rise.
 #[derive(Clone, Copy)]
 pub struct Sources<'a> {
     pub img: &'a [u8],
-    pub rows: [Source; 35],
-    pub count: usize,
-    ghost few: { count ≤ 35 },
-    ghost rise: { Rise img.now (take count rows) } by { Rise-prop img.now (take count rows) },
+    pub lists: Lists,
+    ghost rise: { Rise img.now (take lists.count lists.rows) } by { Rise-prop img.now (take lists.count lists.rows) },
 }

@@ -8,12 +8,11 @@ use native.Mathlib.Omega.{arith}
 use lib.ListN.{length, length-append, length-drop}
 use Rattle.wire.specs.declared.fault.Fault.{Fault}
 use Rattle.wire.specs.Parse.{Parsed, got, bind, bind-bind}
-use Rattle.wire.specs.Number.{number_small}
 use Rattle.wire.specs.Reading.{Reads, meant}
 use Rattle.wire.proofs.Readers.{read-then, read-stop, handed}
 use Rattle.image.specs.Meaning.{Meta, Body, Kind, kind_number}
 use Rattle.image.specs.Meaning as M
-use Rattle.image.specs.KindLayout.{kind, kind-small}
+use Rattle.image.specs.KindLayout.{kind}
 use Rattle.image.specs.FileTypes.{kind_meant}
 use Rattle.image.specs.declared.kind.FileType.{FileType}
 use Rattle.image.specs.NodeLayout.{BodyPart, meta, body_part, body_of, node}
@@ -25,14 +24,10 @@ use Rattle.nodes.specs.Nodes.{meta_meant, body_meant, body_read, EntriesListed, 
 use Rattle.nodes.proofs.Reading.{reads-length}
 use Rattle.nodes.proofs.Values.{reads_made, reads_same}
 use Rattle.image.proofs.OneForm.{kind-one, meta-one}
+use Rattle.image.proofs.Numbered.{kind-length}
 
 abbrev together : Meta → Body → M.Node
 together m b = record { meta = m; body = b }
-
--- a kind is one byte
-kind-length : (k : Kind) → length (kind.write k) ≡ 1
-unfolding kind
-kind-length k = rw (number_small (kind_number k) (omega (arith, kind-small k)))
 
 kind-byte : {img : List ℕ} {at : ℕ} {k : Kind} {next : ℕ} → Reads img kind.read at (Ok (k, next)) → next ≡ at + 1
 kind-byte {k = k} h = omega (arith, kind-length k, simp (length-drop, length-append) at (ap length (kind-one.forth _ _ _ h.same).0), h.within)

@@ -3,7 +3,7 @@
 use mathlib.Core.Path.{◌≡◌, refl, sym, ap, ◌∙◌}
 use mathlib.Core.List.{List}
 use Rattle.std.specs.Prelude.{Result, Ok, Err, None, Option, Some}
-use Prim.Native.Nat.{ℕ, ◌/◌, ◌%◌, ◌≤◌}
+use Prim.Native.Nat.{ℕ, ◌/◌, ◌%◌, ◌-◌, ◌≤◌}
 use native.Mathlib.Omega.{arith}
 use lib.ListN.{length, drop, length-append, length-drop}
 use Rattle.wire.specs.declared.fault.Fault.{Fault}
@@ -23,7 +23,7 @@ use Rattle.image.specs.FieldLayout.{word}
 use Rattle.image.specs.RecordLayout.{later_flags, flags, fields, fields_of}
 use Rattle.image.specs.Places.{Ends, maybe_read}
 use Rattle.image.proofs.Passing.{ends-got, ends-fault}
-use Rattle.nodes.specs.declared.attr.Words.{Words}
+use Rattle.nodes.specs.declared.attr.AttrDelta.{AttrDelta}
 use Rattle.nodes.specs.Attrs.{later_read}
 use Rattle.nodes.specs.Fields.{holds_if, ReadsAs}
 use Rattle.std.specs.Option.{option_map}
@@ -112,14 +112,15 @@ module _ {img : List ℕ} (u : Under) {n : ℕ} where
     list-is = let g = ends-got h in rw g.1
 
   module _ {o : Result ℕ Fault} (h : Ends img (by_name u).read n o) where
-    pub reads-names : {q : ℕ} → o ≡ Ok q → ReadsNames img u n (Ok (part_from n q, q))
-    reads-names d =
+    pub reads-names : {q : ℕ} (p : Part) → o ≡ Ok q → (p.start ≡ n) × (p.length ≡ q - n) → ReadsNames img u n (Ok (p, q))
+    reads-names {q} p d b =
         let g = rw d at h in
-        record {
+        let is : p ≡ part_from n q = rw (← b.1, ← b.0) refl in
+        rw is (record {
           reads = record { same = list-is g; within = g.within };
           listed = record { is = list-is g; ends = omega (arith, list-forth g); inside = g.within };
           place = refl;
-        }
+        })
 
     pub names-stop : {r : Result (Part × ℕ) Fault} {f : Fault} → o ≡ Err f → r ≡ Err f → ReadsNames img u n r
     names-stop d e = rw e (record { reads = record { same = ends-fault (rw d at h); within = tt }; listed = tt; place = tt })
@@ -133,7 +134,7 @@ abbrev bit : ℕ → List ℕ → Parsed (Option ℕ)
 bit b = opt-read (number_read 4294967295) (b % 2)
 
 module _ {img : List ℕ} {m at c0 c1 c2 c3 c4 : ℕ} {r : Result (Fields × ℕ) Fault} where
-  pub reads-fields : (w : Words) → Reads img (number_read 511) at (Ok (m, c0)) → Reads img (bit m) c0 (Ok (itself w.mode, c1))
+  pub reads-fields : (w : AttrDelta) → Reads img (number_read 511) at (Ok (m, c0)) → Reads img (bit m) c0 (Ok (itself w.mode, c1))
       → Reads img (bit (m / 2)) c1 (Ok (itself w.uid, c2)) → Reads img (bit (m / 2 / 2)) c2 (Ok (itself w.gid, c3))
       → Reads img (bit (m / 2 / 2 / 2)) c3 (Ok (itself w.nlink, c4)) → Reads img (later_read (m / 2 / 2 / 2 / 2) w) c4 r → Reads img fields.read at r
   unfolding fields

@@ -1,6 +1,5 @@
 -- What the changes of attributes by value mean.
-use Rattle.wire.specs.declared.part.Part.{Part}
-use Rattle.std.specs.Prelude.{List, ℕ, Result, IfOk, Option}
+use Rattle.std.specs.Prelude.{List, ℕ, Result, IfOk, None}
 use Rattle.wire.specs.declared.fault.Fault.{Fault}
 use Rattle.wire.specs.Parse.{Parsed, got, bind}
 use Rattle.wire.specs.Reading.{Reads, meant}
@@ -9,8 +8,6 @@ use Rattle.image.specs.declared.name.Under.TheVariants as U
 use Rattle.image.specs.RecordLayout.{later_flags, fields, fields_of}
 use Rattle.nodes.specs.Listed.{list_of, ListedIf}
 use Rattle.nodes.specs.declared.attr.AttrDelta.{AttrDelta}
-use Rattle.nodes.specs.declared.attr.Words.{Words}
-use Rattle.nodes.specs.declared.attr.Times.{Times}
 
 -- "a mask (bit 0 upward: mode, owner, group, links, atime, mtime, ctime, created, attributes)"
 abbrev pub fields_meant : List ℕ → AttrDelta → Fields
@@ -26,27 +23,27 @@ fields_meant img a = record {
   attributes = list_of img U.Change a.xattrs;
 }
 
--- the fields of a delta, put together
-abbrev pub attr_delta : Words → Times → Option Part → AttrDelta
-attr_delta w t x = record {
-  mode = w.mode;
-  uid = w.uid;
-  gid = w.gid;
-  nlink = w.nlink;
-  atime = t.atime;
-  mtime = t.mtime;
-  ctime = t.ctime;
-  created_at = t.created_at;
-  xattrs = x;
+-- no field is there
+abbrev pub no_changes : AttrDelta
+no_changes = record {
+  mode = None;
+  uid = None;
+  gid = None;
+  nlink = None;
+  atime = None;
+  mtime = None;
+  ctime = None;
+  created_at = None;
+  xattrs = None;
 }
 
 -- the upper bits of a mask, after the first four fields
-abbrev pub later_read : ℕ → Words → List ℕ → Parsed Fields
+abbrev pub later_read : ℕ → AttrDelta → List ℕ → Parsed Fields
 later_read bits w s =
     bind ((later_flags.at bits).read s) (λ l r.
     got (fields_of (w.mode, (w.uid, (w.gid, (w.nlink, l))))) r)
 
-pub record ReadsLater (img : List ℕ) (at bits : ℕ) (w : Words) (r : Result (AttrDelta × ℕ) Fault) : Type 0 where
+pub record ReadsLater (img : List ℕ) (at bits : ℕ) (w : AttrDelta) (r : Result (AttrDelta × ℕ) Fault) : Type 0 where
   pub reads : Reads img (later_read bits w) at (meant (fields_meant img) r)
   pub listed : IfOk r (λ x. ListedIf img U.Change x.0.xattrs x.1)
 

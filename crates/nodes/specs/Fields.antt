@@ -10,6 +10,7 @@ holds_if Holds None end = Unit {0}
 holds_if Holds (Some v) end = Holds v end
 
 -- What the parser reads at a place is what the value says, of which this holds up to the place after it.
-pub record ReadsAs {V M : Type 0} (img : List ℕ) (p : List ℕ → Parsed M) (says : V → M) (Holds : V → ℕ → Type 0) (at : ℕ) (r : Result (V × ℕ) Fault) : Type 0 where
+pub record ReadsAs {V M : Type 0} (img : List ℕ) (p : List ℕ → Parsed M) (says : V → M) (Holds : V → ℕ → Type 0) (at : ℕ) (r : Result (V × ℕ) Fault)
+    : Type 0 where
   pub reads : Reads img p at (meant says r)
   pub holds : IfOk r (λ x. Holds x.0 x.1)

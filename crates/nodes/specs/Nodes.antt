@@ -1,6 +1,7 @@
 -- What a node of the base by value means. Document 01: "then parent and entries (name, inode) rising, or size, or target, or device, or
 -- nothing, by kind"; "texts as places beside it".
-use Rattle.std.specs.Prelude.{List, ℕ, ◌+◌, length, Result, IfOk}
+use Rattle.std.specs.Prelude.{List, ℕ, ◌+◌, length, Result, IfOk, None, Option, Some}
+use Rattle.wire.specs.declared.part.Part.{Part}
 use Rattle.wire.specs.declared.fault.Fault.{Fault}
 use Rattle.wire.specs.Parse.{Parsed, got, bind}
 use Rattle.wire.specs.Reading.{Reads, meant}
@@ -51,6 +52,16 @@ module _ (img : List ℕ) where
   EntriesListed (K.CharDevice rdev) end = Unit {0}
   EntriesListed (K.BlockDevice rdev) end = Unit {0}
   EntriesListed K.Socket end = Unit {0}
+
+-- where the entries of a directory stand
+abbrev pub entries_in : NodeKind → Option Part
+entries_in (K.Directory parent es) = Some es
+entries_in (K.File size) = None
+entries_in (K.Symlink t) = None
+entries_in K.Fifo = None
+entries_in (K.CharDevice rdev) = None
+entries_in (K.BlockDevice rdev) = None
+entries_in K.Socket = None
 
 -- what a node of the kind k has of its own
 abbrev pub body_read : Kind → List ℕ → Parsed Body

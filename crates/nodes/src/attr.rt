@@ -1,9 +1,9 @@
 // The changes of attributes that a delta carries.
 ghost use Rattle.std.specs.Prelude.{◌≤◌, ◌≡◌, length};
-ghost use Rattle.nodes.specs.Attrs.{attr_delta, ReadsAttr, ReadsLater};
+ghost use Rattle.nodes.specs.Attrs.{no_changes, ReadsAttr, ReadsLater};
 
 use crate::field::read_if;
-use image::field::{Moment, Word};
+use image::field::{LAST_MASK, Moment, Word};
 use image::name::Changes;
 use wire::fault::Fault;
 use wire::number::read_number;
@@ -29,31 +29,46 @@ pub struct AttrDelta {
 pub fn read_attr_delta(img: &[u8], at: usize) -> Result<(AttrDelta, usize), Fault>
     ensures { ReadsAttr img.now at result }
 {
-    let (bits, start) = read_number(img, at, 511)?;
+    let (bits, start) = read_number(img, at, LAST_MASK)?;
     let (mode, owner) = read_if::<Word>(img, start, bits % 2)?;
     let (uid, group) = read_if::<Word>(img, owner, bits / 2 % 2)?;
     let (gid, links) = read_if::<Word>(img, group, bits / 2 / 2 % 2)?;
     let (nlink, times) = read_if::<Word>(img, links, bits / 2 / 2 / 2 % 2)?;
-    let words = Words {
+    let words = AttrDelta {
         mode,
         uid,
         gid,
         nlink,
+        ..no_changes()
     };
     read_later(img, times, bits / 2 / 2 / 2 / 2, words)
 }
 
-// The first four fields.
-#[derive(Clone, Copy)]
-pub struct Words {
-    pub mode: Option<u32>,
-    pub uid: Option<u32>,
-    pub gid: Option<u32>,
-    pub nlink: Option<u32>,
+// No changes: no field is there. No `Default`: the name says that nothing changes.
+pub fn no_changes() -> AttrDelta
+    ensures { result ≡ no_changes }
+{
+    AttrDelta {
+        mode: None,
+        uid: None,
+        gid: None,
+        nlink: None,
+        atime: None,
+        mtime: None,
+        ctime: None,
+        created_at: None,
+        xattrs: None,
+    }
 }
 
-// The times and the attribute changes that the upper bits of a mask say are there, after the first four fields.
-fn read_later(img: &[u8], at: usize, bits: u64, words: Words) -> Result<(AttrDelta, usize), Fault>
+// The times and the attribute changes that the upper bits of a mask say are there, after the first four fields. The place in the image, as in
+// `pass_if`.
+fn read_later(
+    img: &[u8],
+    at: usize,
+    bits: u64,
+    words: AttrDelta,
+) -> Result<(AttrDelta, usize), Fault>
     requires { (bits ≤ 31) × (at ≤ length img.now) }
     ensures { ReadsLater img.now at bits words result }
 {
@@ -61,46 +76,14 @@ fn read_later(img: &[u8], at: usize, bits: u64, words: Words) -> Result<(AttrDel
     let (mtime, changed) = read_if::<Moment>(img, modified, bits / 2 % 2)?;
     let (ctime, created) = read_if::<Moment>(img, changed, bits / 2 / 2 % 2)?;
     let (created_at, attributes) = read_if::<Moment>(img, created, bits / 2 / 2 / 2 % 2)?;
-    let times = Times {
-        atime,
-        mtime,
-        ctime,
-        created_at,
-    };
     let (xattrs, next) = read_if::<Changes>(img, attributes, bits / 2 / 2 / 2 / 2)?;
-    Ok((attr_delta_of(words, times, xattrs), next))
-}
-
-// The four times.
-#[derive(Clone, Copy)]
-pub struct Times {
-    pub atime: Option<Time>,
-    pub mtime: Option<Time>,
-    pub ctime: Option<Time>,
-    pub created_at: Option<Time>,
-}
-
-// The fields, put together.
-fn attr_delta_of(words: Words, times: Times, xattrs: Option<Part>) -> AttrDelta
-    ensures { result ≡ attr_delta words times xattrs }
-{
-    let mode = words.mode;
-    let uid = words.uid;
-    let gid = words.gid;
-    let nlink = words.nlink;
-    let atime = times.atime;
-    let mtime = times.mtime;
-    let ctime = times.ctime;
-    let created_at = times.created_at;
-    AttrDelta {
-        mode,
-        uid,
-        gid,
-        nlink,
+    let fields = AttrDelta {
         atime,
         mtime,
         ctime,
         created_at,
         xattrs,
-    }
+        ..words
+    };
+    Ok((fields, next))
 }

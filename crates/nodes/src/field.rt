@@ -1,4 +1,4 @@
-// Fields by value: one that stands in the image, and one that is there, or not.
+// Fields by value: one that is always there, and one that may be missing.
 ghost use Rattle.std.specs.Prelude.{◌≤◌, ◌+◌, ℕ, List, length};
 ghost use Rattle.std.specs.Option.{option_map};
 ghost use Rattle.wire.specs.Codec.{Codec};
@@ -24,7 +24,8 @@ use wire::part::Part;
 use wire::text::read_text;
 use wire::time::{Time, read_time};
 
-// A field that is read by value. A text or a list stays in the image: its value is the part where it stands.
+// A field that is read by value. A text or a list stays in the image: its value is the part where it stands. It says `Said` and `layout` again, as
+// `Field` has them: the type of `says` could not name those of a supertrait.
 pub trait ReadField {
     type Value: Copy;
 
@@ -155,7 +156,7 @@ impl ReadField for Changes {
     }
 }
 
-// A field that is there if the bit is 1, and the place after it.
+// A field that is there if the bit is 1, and the place after it. The bit is a number, and the place in the image, as in `pass_if` (image).
 pub fn read_if<F: ReadField>(
     img: &[u8],
     at: usize,

@@ -1,4 +1,4 @@
-// Nodes and records by value, with the Rust's names: each is read at its place. Texts and lists stay in the image, as places
+// Fields and nodes by value, with the Rust's names: each is read at its place. Texts and lists stay in the image, as places
 // beside the value. Crate `records` writes them again.
 #![tactic(auto)]
 

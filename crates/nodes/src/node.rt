@@ -2,17 +2,16 @@
 ghost use Rattle.std.specs.Prelude.{◌≤◌, ◌≡◌, ℕ, List, length};
 ghost use Rattle.image.specs.Meaning.{directory, kind_of};
 ghost use Rattle.image.specs.FileTypes.{kind_meant};
-ghost use Rattle.nodes.specs.Nodes.{body_meant, ReadsMeta, ReadsKind, ReadsNode};
+ghost use Rattle.nodes.specs.Nodes.{body_meant, entries_in, ReadsMeta, ReadsKind, ReadsNode};
 
 use crate::field::ReadField;
 use crate::part::read_names;
-use image::field::{Size, Target, Word};
+use image::field::{Inode, Moment, Size, Target, Word};
 use image::kind::{FileType, read_file_type};
 use image::name::Under;
 use wire::fault::Fault;
-use wire::number::read_number;
 use wire::part::Part;
-use wire::time::{Time, read_time};
+use wire::time::Time;
 
 // The extended attributes are a list in the image.
 #[derive(Clone, Copy)]
@@ -54,6 +53,16 @@ impl NodeKind {
             NodeKind::Socket => FileType::Socket,
         }
     }
+
+    // The entries; only a directory has any.
+    pub fn entries(self) -> Option<Part>
+        ensures { result ≡ entries_in self }
+    {
+        match self {
+            NodeKind::Directory { parent: _, entries } => Some(entries),
+            _ => None,
+        }
+    }
 }
 
 #[derive(Clone, Copy)]
@@ -82,9 +91,9 @@ fn read_meta(img: &[u8], at: usize) -> Result<(InodeMeta, usize), Fault>
     let (nlink, owner) = Word::read(img, links)?;
     let (uid, group) = Word::read(img, owner)?;
     let (gid, accessed) = Word::read(img, group)?;
-    let (atime, modified) = read_time(img, accessed)?;
-    let (mtime, changed) = read_time(img, modified)?;
-    let (ctime, attributes) = read_time(img, changed)?;
+    let (atime, modified) = Moment::read(img, accessed)?;
+    let (mtime, changed) = Moment::read(img, modified)?;
+    let (ctime, attributes) = Moment::read(img, changed)?;
     let (xattrs, next) = read_names(img, attributes, Under::Value)?;
     let meta = InodeMeta {
         perm,
@@ -99,7 +108,8 @@ fn read_meta(img: &[u8], at: usize) -> Result<(InodeMeta, usize), Fault>
     Ok((meta, next))
 }
 
-// What a node of this kind has of its own. The place is in the image, as in `pass_under`.
+// What a node of this kind has of its own. The place is in the image, as in `pass_under`. Two arms of two lines for the devices: a reader that took
+// the constructor would be longer.
 fn read_kind(img: &[u8], at: usize, kind: FileType) -> Result<(NodeKind, usize), Fault>
     requires { at ≤ length img.now }
     ensures { ReadsKind img.now (kind_meant kind) at result }
@@ -131,7 +141,7 @@ fn read_kind(img: &[u8], at: usize, kind: FileType) -> Result<(NodeKind, usize),
 fn read_directory(img: &[u8], at: usize) -> Result<(NodeKind, usize), Fault>
     ensures { ReadsKind img.now directory at result }
 {
-    let (parent, here) = read_number(img, at, u64::MAX)?;
+    let (parent, here) = Inode::read(img, at)?;
     let (entries, next) = read_names(img, here, Under::Inode)?;
     Ok((NodeKind::Directory { parent, entries }, next))
 }

@@ -1,19 +1,18 @@
 -- The image with a layer normalised is that of the store with the layer normalised.
 -- Assumes nothing.
-use Rattle.std.specs.Prelude.{None, Option, Some, Result, Ok, Err}
+use Rattle.std.specs.Prelude.{None, Option, Some, Result, Err}
 use Rattle.std.proofs.Common.{MutBor}
 use mathlib.Core.Path.{◌≡◌, refl, sym, ap, ◌∙◌}
 use mathlib.Core.List.{List, [], ◌∷◌, ◌++◌, map, append_assoc, append-nil}
 use Prim.Native.Nat.{ℕ, zero, suc, ◌+◌, ◌-◌, ◌≤◌, ◌<◌}
 use native.Mathlib.Omega.{arith}
 use native.Mathlib.Numerals.{add-one}
-use lib.ListN.{length, take, drop, get_or}
+use lib.ListN.{length, length-map, take, drop, get_or}
 use lib.Seq.{take-suc}
 use borrow.Author.Tests.{lt-ltb, le-ltb}
-use Rattle.wire.specs.declared.fault.Fault.{Fault}
 use Rattle.std.specs.declared.cmp.Ordering.{Ordering}
 use Rattle.std.specs.declared.cmp.Ordering.TheVariants.{Less, Equal, Greater}
-use Rattle.wire.specs.Number.{number_bytes, number_read, number_to}
+use Rattle.wire.specs.Number.{number_bytes, number_to}
 use Rattle.wire.specs.Order.{Order}
 use Rattle.wire.specs.Orders.{by_number}
 use Rattle.wire.specs.Rows.{choose, lookup, Under, Rising}
@@ -21,7 +20,6 @@ use Rattle.wire.specs.RowLaws.{ext}
 use Rattle.wire.specs.Maps.{Map, meet, merge, empty, get, get-merge, get-empty}
 use Rattle.wire.specs.Lists.{last_count}
 use Rattle.wire.specs.Put.{Put}
-use Rattle.wire.specs.Reading.{Reads}
 use Rattle.wire.proofs.Puts.{put-append}
 use Rattle.image.specs.Meaning.{Base, Layer, Batch, Store}
 use Rattle.image.specs.FieldLayout.{inode}
@@ -46,12 +44,12 @@ use Rattle.change.specs.Sections.{between, Spans, Stands, tail_of}
 use Rattle.change.specs.Changed.{Changes, Writes}
 use Rattle.survey.specs.declared.refusal.Refusal.{Refusal}
 use Rattle.survey.specs.declared.refusal.Refusal.TheVariants as D
-use Rattle.change.specs.declared.section.Sections.{Sections}
+use Rattle.survey.specs.declared.store.Sections.{Sections}
 use Rattle.change.proofs.Batches.{head_of, batch_bytes, queue_bytes, batches-bytes}
 use Rattle.change.proofs.Cutting.{chain-rows}
 use Rattle.change.proofs.Finishing.{changes-refused, changes-made}
 use Rattle.change.proofs.Sections.{span-part, span-front, span-both, span-reads, value-is, stands-fits, store_bytes}
-use Rattle.change.proofs.Queued.{stands-count}
+use Rattle.change.proofs.Queued.{stands-counted}
 use Rattle.walk.specs.declared.walk.Walk.{Walk}
 use Rattle.walk.specs.Ready.{Ready}
 use Rattle.walk.specs.Opens.{layer_bytes, layer_at, LayersOf, OpensLayers}
@@ -64,6 +62,7 @@ use Rattle.normalize.proofs.Recording.{between_is}
 
 -- ---- a layer normalised, row by row
 
+-- with a value of the key and of what stands under it; `map_values` (rules) has one of what stands there alone
 module _ {K A : Type 0} (O : Order K) (f : K → A → A) where
   abbrev keyed : K × A → K × A
   keyed e = (e.0, f e.0 e.1)
@@ -101,13 +100,9 @@ normal-rows : (ls : List Layer) (b : Base) (l : Layer) → (normal_layer ls b l)
 unfolding normal_layer
 normal-rows ls b l = keyed-rows by_number (λ i r. normal_on (stack i ls) (get by_number i b) r) l
 
-map-length : {X Y : Type 0} (f : X → Y) (l : List X) → length (map f l) ≡ length l
-map-length f [] = refl
-map-length f (x ∷ l) = ap suc (map-length f l)
-
 normal-write : (ls : List Layer) (b : Base) (l : Layer)
     → records.write (normal_layer ls b l) ≡ number_bytes (length l.rows) ++ rows_bytes inode layer_record (normal_rows b ls l.rows)
-normal-write ls b l = rw (normal-rows ls b l, map-length (normal_row b ls) l.rows, chain-rows by_number inode layer_record None (normal_rows b ls l.rows))
+normal-write ls b l = rw (normal-rows ls b l, length-map l.rows (normal_row b ls), chain-rows by_number inode layer_record None (normal_rows b ls l.rows))
 
 -- ---- the image written
 
@@ -222,20 +217,15 @@ module _ {img : List ℕ} {s : Store} {p : Sections} (w : Stands img p s) {n : �
 
 -- ---- the call
 
-module _ {img : List ℕ} {p : Sections} {s : Store} (w : Stands img p s) {o : Result (ℕ × ℕ) Fault} (a : Reads img (number_read 16) p.batches o) {y : ℕ × ℕ}
-    (d : o ≡ Ok y) where
-  counted : y.0 ≡ length s.batches
-  counted = stands-count w a d
-
-  pub few-batches : y.0 ≤ 16
-  unfolding batches
-  few-batches = omega (arith, counted, (stands-fits w).batches.count)
+module _ {img : List ℕ} {p : Sections} {s : Store} (w : Stands img p s) {r : Rows} (a : RowsAt img 16 p.batches r) where
+  counted : r.count ≡ length s.batches
+  counted = let o = rows-read a in ap (λ (x : ℕ × ℕ). x.0) (value-is (0, 0) (stands-counted w o.1) o.2)
 
   -- "11 if the position is above the number of batches"
-  pub position-refused : {n : ℕ} → y.0 < n → {old : List ℕ} → Changes (by_rules usual (Call.normalise n) img (length old)) old (Err D.NoLayer) old
+  pub position-refused : {n : ℕ} → r.count < n → {old : List ℕ} → Changes (by_rules usual (Call.normalise n) img (length old)) old (Err D.NoLayer) old
   position-refused {n} h = changes-refused (Call.normalise n) w (rw (lt-ltb (length s.batches) n (omega (arith, counted))))
 
-  module _ {n : ℕ} (h : n ≤ y.0) where
+  module _ {n : ℕ} (h : n ≤ r.count) where
     long : n + 1 ≤ length (layers s)
     long = omega (arith, counted, count-layers s.batches s.live)
 

@@ -43,7 +43,7 @@ module _ {t : Step} {old : List ℕ} {at : ℕ} where
       → Put mid q (layer_record.write (normal_pieces (pieces_in t.stack))) r new → PutsStep t old at r new
   step-topped e p q = record {
     topped = λ x h. put-append p q;
-    passed = λ x. absurd (let z : ◌≡◌ {A = ℕ} 0 1 = cc in omega arith);
+    passed = λ x. cc;
     low = λ h. omega (arith, q.to);
     same = put-length q ∙ put-length p;
   }
@@ -84,7 +84,7 @@ unfolding records_on
 some-count s {r} {x} e = go s.places.count (ap (λ (y : Pieces). y.0) e)
   where
     go : (n : ℕ) → map (λ r. r.held) (records_on s.img.now (take n s.places.deltas) []) ≡ r ∷ x.0 → 0 < n
-    go zero e = absurd (let z : ◌≡◌ {A = ℕ} 0 1 = cc in omega arith)
+    go zero e = cc
     go (suc n) e = omega arith
 
 module _ (b : Base) (ls : List Layer) (l : Layer) where

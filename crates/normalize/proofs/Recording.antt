@@ -1,6 +1,10 @@
 -- What is written of a record that is held against its stack below.
 -- Assumes nothing.
 use Rattle.std.specs.Prelude.{None, Option, Some, Result, Ok, Err}
+use Rattle.std.specs.Option.{option_eq}
+use Rattle.image.specs.declared.kind.FileType.{FileType}
+use Rattle.image.specs.declared.kind.FileType.TheVariants as T
+use Rattle.image.specs.contracts.kind.FileTypePartialEq.TheImpl as TypeEq
 use mathlib.Core.Path.{◌≡◌, refl, sym, ap, ◌∙◌, subst, fun_ext}
 use mathlib.Core.Bool.{true, false}
 use mathlib.Core.List.{List, [], ◌∷◌, ◌++◌, append_assoc, append-nil}
@@ -36,21 +40,21 @@ use Rattle.deltas.specs.declared.delta.EntryDelta.TheVariants as E
 use Rattle.writers.proofs.Writing.{part-written}
 use Rattle.rules.specs.Reads.{child, type}
 use Rattle.rules.specs.Normalise.{normal_change, normal_directory}
-use Rattle.lookup.specs.Lists.{IsList}
-use Rattle.lookup.proofs.Searching.{is-list}
-use Rattle.stack.specs.Stacks.{AllRead, Stacked, records_under, node_in, RecordIs}
+use Rattle.stack.specs.Stacks.{AllRead, Stacked, records_under, node_in, RecordIs, type_of}
 use Rattle.stack.specs.InStack.{shown_in}
 use Rattle.stack.specs.declared.stack.Stack.{Stack}
 use Rattle.rules.specs.Starts.{Placed}
 use Rattle.rules.specs.PlacedStacks.{unplaced, unplaced_node}
 use Rattle.stack.proofs.Walks.{records-more}
-use Rattle.merge.specs.Merges.{Settles}
 use Rattle.merge.specs.declared.sources.Sources.{Sources}
-use Rattle.merge.specs.declared.merge.Merge.{Merge}
 use Rattle.change.specs.Sections.{between}
 use Rattle.walk.specs.Walks.{pieces_in}
 use Rattle.keep.specs.Below.{Leads}
-use Rattle.keep.specs.Keeps.{leads_in, kept_map}
+use Rattle.keep.specs.Keeps.{leads_in, kept_map, kept_bytes}
+use Rattle.image.specs.declared.name.Under.{Under}
+use Rattle.wire.specs.declared.part.Part.{Part}
+use Rattle.lookup.specs.Search.{IsListOf}
+use Rattle.lookup.specs.declared.list.NameList.{NameList}
 use Rattle.normalize.specs.Records.{is_directory, normal_at, normal_in, normal_pieces, Copies}
 use Rattle.nodes.proofs.OneForm.{by_name-one}
 use Rattle.image.proofs.OneForm.{layer_record-one}
@@ -69,6 +73,11 @@ directory-bytes : (f : Fields) (p : Option ℕ) (a : Entries) (r : Names)
     ≡ (code.write (Some Kind.directory) ++ (fields.write f ++ (maybe inode).write p)) ++ (entries.write a ++ names.write r)
 unfolding layer_record
 directory-bytes f p a r = simp append_assoc
+
+-- the rows that stay of a list of the delta
+module _ (l : NameList) {img : List ℕ} {u : Under} {p : Part} (g : IsListOf img u p l) where
+  pub kept-of : (f : Text → Option ℕ) → kept_bytes l f ≡ (by_name u).write (kept_map u f (list_at img u p))
+  kept-of f = rw (g.image, g.sort, g.at) refl
 
 module _ (s : Stack) {place : ℕ} {d : DirectoryDelta} (g : RecordIs s.img.now place (E.Node (D.Directory d))) where
   abbrev f : Fields
@@ -110,9 +119,6 @@ module _ (s : Stack) {place : ℕ} {d : DirectoryDelta} (g : RecordIs s.img.now 
       part-written (by_name U.Inode) (by_name-one U.Inode) (omega (arith, added-listed.ends, added-listed.inside))
       (record { same = added-listed.is; within = added-listed.inside })
 
-  pub lists-there : IsList s.img.now U.Inode d.added × IsList s.img.now U.Nothing d.removed
-  lists-there = (is-list added-listed, is-list removed-listed)
-
   abbrev Normal : List ℕ → ℕ → ℕ → List ℕ → Option Kind → Type 0
   Normal old at q new k =
       let change = normal_directory (λ name. shown_in (child name) s) k p a r in
@@ -120,14 +126,14 @@ module _ (s : Stack) {place : ℕ} {d : DirectoryDelta} (g : RecordIs s.img.now 
 
   module _ {old b₁ b₂ new : List ℕ} {at q₁ q₂ q₃ : ℕ} (h : Put old at (between s.img.now place d.added.start) q₁ b₁) where
     -- "else it drops added names that lead to the same inode below and removed names that lead to none"
-    pub normal-directory : {all : Sources} (m : Merge) → Leads s all → Settles all m → is_directory (shown_in type s) ≡ true
-        → Put b₁ q₁ ((by_name U.Inode).write (kept_map U.Inode (leads_in m) a)) q₂ b₂
-        → Put b₂ q₂ ((by_name U.Nothing).write (kept_map U.Nothing (leads_in m) r)) q₃ new
+    pub normal-directory : {all : Sources} → Leads s all → is_directory (shown_in type s) ≡ true
+        → (x y : NameList) → IsListOf s.img.now U.Inode d.added x × IsListOf s.img.now U.Nothing d.removed y
+        → Put b₁ q₁ (kept_bytes x (leads_in all)) q₂ b₂ → Put b₂ q₂ (kept_bytes y (leads_in all)) q₃ new
         → Put old at (layer_record.write (normal_in s (entry_meant s.img.now (E.Node (D.Directory d))))) q₃ new
-    normal-directory {all} m l t e u v = go (shown_in type s) e
+    normal-directory {all} l e x y lists u v = go (shown_in type s) e
       where
-        same : leads_in m ≡ (λ name. shown_in (child name) s)
-        same = fun_ext (λ name. rw (← t.gives) (l.leads name))
+        same : leads_in all ≡ (λ name. shown_in (child name) s)
+        same = fun_ext (λ name. l.leads name)
 
         there : Normal old at q₃ new (Some directory)
         there =
@@ -136,14 +142,14 @@ module _ (s : Stack) {place : ℕ} {d : DirectoryDelta} (g : RecordIs s.img.now 
             let change = normal_directory B (Some directory) p a r in
             Put old at (layer_record.write (delta (record { fields = f; change = change }))) q₃ new)
             same
-            (rw directory-bytes (put-append (rw front_bytes at h) (put-append u v)))
+            (rw directory-bytes (put-append (rw front_bytes at h) (put-append (rw (kept-of x lists.0 _) at u) (rw (kept-of y lists.1 _) at v))))
 
         go : (k : Option Kind) → is_directory k ≡ true → Normal old at q₃ new k
-        go None e = absurd (let z : ◌≡◌ {A = ℕ} 0 1 = cc in omega arith)
+        go None e = cc
         go (Some directory) e = there
-        go (Some file) e = absurd (let z : ◌≡◌ {A = ℕ} 0 1 = cc in omega arith)
-        go (Some symlink) e = absurd (let z : ◌≡◌ {A = ℕ} 0 1 = cc in omega arith)
-        go (Some (special x)) e = absurd (let z : ◌≡◌ {A = ℕ} 0 1 = cc in omega arith)
+        go (Some file) e = cc
+        go (Some symlink) e = cc
+        go (Some (special x)) e = cc
 
     -- "not existing or not a directory, removed is emptied"
     pub normal-none : is_directory (shown_in type s) ≡ false → Put b₁ q₁ (between s.img.now d.added.start d.removed.start) q₂ b₂
@@ -157,10 +163,21 @@ module _ (s : Stack) {place : ℕ} {d : DirectoryDelta} (g : RecordIs s.img.now 
 
         go : (k : Option Kind) → is_directory k ≡ false → Normal old at q₃ new k
         go None e = there
-        go (Some directory) e = absurd (let z : ◌≡◌ {A = ℕ} 0 1 = cc in omega arith)
+        go (Some directory) e = cc
         go (Some file) e = there
         go (Some symlink) e = there
         go (Some (special x)) e = there
+
+-- what the derived `==` answers of a kind that may be there
+pub directory-eq : (o : Option FileType) → option_eq TypeEq.eq-value.it o (Some T.Directory) ≡ is_directory (type_of o)
+directory-eq None = refl
+directory-eq (Some T.Directory) = refl
+directory-eq (Some T.RegularFile) = refl
+directory-eq (Some T.Symlink) = refl
+directory-eq (Some T.NamedPipe) = refl
+directory-eq (Some T.CharDevice) = refl
+directory-eq (Some T.BlockDevice) = refl
+directory-eq (Some T.Socket) = refl
 
 -- another kind stays as it is
 other-normal : (img : List ℕ) (n : NodeDelta) → ((d : DirectoryDelta) → n ≡ D.Directory d → ⊥) → (B : Text → Option ℕ) (k : Option Kind)
@@ -233,7 +250,3 @@ module _ (s : Stack) (h : 0 < s.places.count) where
     pub top-other : {n : NodeDelta} → e ≡ E.Node n → ((d : DirectoryDelta) → n ≡ D.Directory d → ⊥) → {old new : List ℕ} {at r : ℕ}
         → Copies s.img.now (get_or s.places.deltas top 0) old at r new → Put old at (layer_record.write (normal_pieces (pieces_in s))) r new
     top-other {n} z o p = rw (pieces-top, z, other-normal s.img.now n o _ _) (rw z at (p.copies e g))
-
-pub directory-record : {img : List ℕ} {place : ℕ} {e : EntryDelta} {n : NodeDelta} {d : DirectoryDelta} → RecordIs img place e
-    → e ≡ E.Node n → n ≡ D.Directory d → RecordIs img place (E.Node (D.Directory d))
-directory-record g en ed = rw (en ∙ ap E.Node ed) at g

@@ -11,10 +11,11 @@ use change::room::write_if_room;
 use change::section::open_sections;
 use image::field::LAST_WORD;
 use image::rows::rows_at;
+use survey::batch::MOST_BATCHES;
 use survey::refusal::Refusal;
 use walk::open::{Layers, open_layers};
 use walk::walk::Walk;
-use wire::number::{put_number, read_number};
+use wire::number::put_number;
 
 // Holds each directory delta of the layer at a position against the layers below. Live is at the number of batches.
 pub fn normalize_directory_deltas(
@@ -25,7 +26,7 @@ pub fn normalize_directory_deltas(
     ensures { Changes (normalize_directory_deltas usual img.now position (length target.old)) target.old result target.new }
 {
     let sections = open_sections(img)?;
-    let (count, _) = read_number(img, sections.batches, 16).unwrap();
+    let count = rows_at(img, sections.batches, MOST_BATCHES).count;
     if count < position {
         return Err(Refusal::NoLayer);
     }
@@ -34,7 +35,8 @@ pub fn normalize_directory_deltas(
     write_if_room(target, |buf| put_normal(buf, &walk, &layers))
 }
 
-// The image, with its topmost layer of the walk normalised: all before and after its records is copied.
+// The image with the walk's topmost layer normalised: everything before and after its records is copied. The layers are lent whole: they hold
+// where its records stand.
 fn put_normal(buf: &mut [u8], walk: &Walk, layers: &Layers) -> usize
     ensures { PutsImage walk.entry.now layers.now buf.old result buf.new }
 {

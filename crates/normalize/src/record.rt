@@ -5,29 +5,22 @@ ghost use Rattle.image.specs.RecordLayout.{layer_record};
 ghost use Rattle.deltas.specs.Deltas.{entry_meant};
 ghost use Rattle.deltas.specs.declared.delta.EntryDelta.TheVariants as E;
 ghost use Rattle.deltas.specs.declared.delta.NodeDelta.TheVariants as D;
-ghost use Rattle.stack.specs.Stacks.{RecordIs, type_of};
+ghost use Rattle.stack.specs.Stacks.{RecordIs};
 ghost use Rattle.walk.specs.Walks.{pieces_in};
-ghost use Rattle.normalize.specs.Records.{is_directory, normal_in, normal_pieces, Copies};
+ghost use Rattle.normalize.specs.Records.{normal_in, normal_pieces, Copies};
 
 use change::copy::put_between;
 use deltas::delta::{DirectoryDelta, EntryDelta, NodeDelta};
 use image::kind::FileType;
-use image::name::Under;
 use keep::below::names_in;
 use keep::keep::put_kept_list;
-use lookup::list::NameList;
-use merge::merge::settle;
+use lookup::child::lists_of;
 use passes::record::pass_record;
 use stack::file_type::Type;
 use stack::question::decided;
 use stack::stack::Stack;
+use survey::batch::InodeLayerStack;
 use wire::number::put_number;
-
-fn is_directory(found: Option<FileType>) -> bool
-    ensures { result ≡ is_directory (type_of found) }
-{
-    matches!(found, Some(FileType::Directory))
-}
 
 // Writes a directory delta: as it stands up to its lists, and then what stays of them.
 fn put_normal_directory(
@@ -41,26 +34,16 @@ fn put_normal_directory(
     ensures { Put buf.old at (layer_record.write (normal_in below.entry (entry_meant below.entry.img.now (E.Node (D.Directory directory))))) result buf.new }
 {
     let img = below.img;
-    let added = directory.added;
-    let removed = directory.removed;
-    let head = put_between(buf, at, img, place, added.start);
-    let found = decided(below, &Type);
-    if is_directory(found) {
-        let merge = settle(names_in(below));
-        let entries = NameList {
-            img,
-            place: added,
-            what: Under::Inode,
-        };
-        let names = NameList {
-            img,
-            place: removed,
-            what: Under::Nothing,
-        };
-        let next = put_kept_list(buf, head, entries, &merge);
-        return put_kept_list(buf, next, names, &merge);
+    let added = directory.added.start;
+    let head = put_between(buf, at, img, place, added);
+    let is_directory = decided(below, &Type) == Some(FileType::Directory);
+    if is_directory {
+        let leading = names_in(below);
+        let (entries, names) = lists_of(img, directory);
+        let next = put_kept_list(buf, head, entries, &leading);
+        return put_kept_list(buf, next, names, &leading);
     }
-    let next = put_between(buf, head, img, added.start, removed.start);
+    let next = put_between(buf, head, img, added, directory.removed.start);
     put_number(buf, next, 0)
 }
 
@@ -79,17 +62,15 @@ pub fn put_normal_record(buf: &mut [u8], at: usize, stack: Stack) -> usize
 {
     let top = stack.places.count - 1;
     let place = stack.places.deltas[top];
-    let EntryDelta::Node(delta) = stack.record(top) else {
+    let EntryDelta::Node(NodeDelta::Directory(directory)) = stack.record(top) else {
         return put_record(buf, at, stack.img, place);
     };
-    let NodeDelta::Directory(directory) = delta else {
-        return put_record(buf, at, stack.img, place);
-    };
-    let mut places = stack.places;
-    places.count = top;
     let below = Stack {
         img: stack.img,
-        places,
+        places: InodeLayerStack {
+            count: top,
+            ..stack.places
+        },
     };
     put_normal_directory(buf, at, place, directory, below)
 }

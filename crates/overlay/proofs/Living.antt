@@ -1,7 +1,7 @@
 -- Changes of one inode's live record: "Insert replaces the live record", "Tombstone replaces it too".
 -- Assumes nothing.
 use Rattle.std.specs.Prelude.{Result, Ok, Err, None, Option, Some}
-use mathlib.Core.Path.{◌≡◌, refl, sym, ap, ◌∙◌}
+use mathlib.Core.Path.{◌≡◌, refl, sym, ap, subst, ◌∙◌}
 use mathlib.Core.Bool.{Bool, true, false, not}
 use mathlib.Core.List.{List, [], ◌∷◌, ◌++◌, append_assoc, append-nil}
 use Prim.Native.Nat.{ℕ, ◌<◌}
@@ -42,7 +42,11 @@ use Rattle.change.specs.Splices.{Splices}
 use Rattle.survey.specs.declared.refusal.Refusal.{Refusal}
 use Rattle.survey.specs.declared.refusal.Refusal.TheVariants.{BadArgument}
 use Rattle.change.specs.declared.cut.Cut.{Cut}
-use Rattle.change.specs.declared.section.Sections.{Sections}
+use Rattle.survey.specs.declared.store.Sections.{Sections}
+use Rattle.std.specs.Borrow.{Bor}
+use Rattle.overlay.specs.declared.list.Copied.{Copied}
+use Rattle.overlay.specs.NewLists.{copied_of}
+use Rattle.overlay.specs.NewRecords.{WritesOne}
 use Rattle.overlay.specs.NewRecords.{record_row, record_pieces, edited_image, lead_in, one_image, edit_at, replaced_of, unchanged_of}
 use Rattle.overlay.specs.declared.record.NewRecord.{NewRecord}
 use Rattle.overlay.specs.declared.record.NewRecord.TheVariants as N
@@ -131,7 +135,7 @@ module _ {img : List ℕ} {p : Sections} {s : Store} (w : Stands img p s) where
     -- one record changed
     cut-image : (given newName : List ℕ) (count : ℕ) (r : NewRecord) (o : Option Record) → count ≡ length (edit_rows by_number ((i, o) ∷ []) s.live.rows)
         → record_row img given newName (edit_at cut i r) ≡ rows_bytes inode layer_record (row_if by_number i o)
-        → edited_image img given newName (lead_in p count cut.first) (edit_at cut i r ∷ []) ≡ write_image (set_live (put by_number i o s.live) s)
+        → edited_image img given newName (lead_in p count cut.rows.first) (edit_at cut i r ∷ []) ≡ write_image (set_live (put by_number i o s.live) s)
     unfolding over
     cut-image given newName count r o n e =
         live-image given newName (edit_at cut i r ∷ []) ((i, o) ∷ [])
@@ -146,7 +150,7 @@ module _ {img : List ℕ} {p : Sections} {s : Store} (w : Stands img p s) where
         → one_image img given newName p (replaced_of cut i r) ≡ write_image (set_live (put by_number i (Some new) s.live) s)
     unfolding edit_rows
     replaced-image given newName r new e =
-        cut-image given newName (count_after cut.count cut.place true) r (Some new)
+        cut-image given newName (count_after cut.rows.count cut.place true) r (Some new)
         (count-more by_number inode layer_record is_cut s.live.rising [] tt (Some new) is_cut.count) (e ∙ row-bytes i new)
 
     pub unchanged-image : (given newName : List ℕ) (o : Option Record) → get by_number i s.live ≡ o
@@ -156,10 +160,16 @@ module _ {img : List ℕ} {p : Sections} {s : Store} (w : Stands img p s) where
         let l = s.live.rows in
         let x = under_first (row_here by_number i l) in
         let y : x ≡ o = sym (get-here by_number i s.live) ∙ e in
-        cut-image given newName cut.count N.Same x
+        cut-image given newName cut.rows.count N.Same x
         (is_cut.count ∙ sym (count_same by_number inode layer_record is_cut s.live.rising [] tt))
         (span-part is_cut.here ∙ ap (rows_bytes inode layer_record) (here-row by_number i l))
         ∙ ap (λ (z : Option Record). write_image (set_live (put by_number i z s.live) s)) y
+
+-- ---- written, with what was given as the name of an entry too
+
+pub written-of : (p : Sections) (n : NewLive) {img given : Bor (List ℕ)} {copied : Copied} {old new : List ℕ} {answer : Result ℕ Refusal}
+    → copied ≡ copied_of img given → WritesOne copied p n old answer new → WritesOne (copied_of img given) p n old answer new
+written-of p n {old = old} {new} {answer} e w = subst (λ (c : Copied). WritesOne c p n old answer new) e w
 
 -- ---- "Tombstone replaces it too"
 

@@ -4,7 +4,7 @@ use Rattle.image.specs.Meaning.{Record, Store}
 use Rattle.image.specs.RoundTrip.{write_image}
 use Rattle.rules.specs.Queue.{on_live}
 use Rattle.change.specs.Sections.{Stands}
-use Rattle.change.specs.declared.section.Sections.{Sections}
+use Rattle.survey.specs.declared.store.Sections.{Sections}
 use Rattle.overlay.specs.NewRecords.{one_image}
 use Rattle.overlay.specs.declared.write.NewLive.{NewLive}
 

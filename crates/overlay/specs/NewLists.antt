@@ -5,12 +5,18 @@ use Rattle.wire.specs.Number.{number_bytes}
 use Rattle.wire.specs.Text.{text_bytes}
 use Rattle.nodes.specs.Options.{text_at}
 use Rattle.change.specs.Splices.{Piece, spliced}
+use Rattle.change.specs.declared.cut.Gap.{Gap}
+use Rattle.std.specs.Borrow.{Bor}
+use Rattle.overlay.specs.declared.list.Copied.{Copied}
 use Rattle.overlay.specs.declared.list.NewRow.{NewRow}
 use Rattle.overlay.specs.declared.list.NewRow.TheVariants as R
-use Rattle.overlay.specs.declared.list.Gap.{Gap}
 use Rattle.overlay.specs.declared.list.NewRows.{NewRows}
 use Rattle.overlay.specs.declared.list.NewList.{NewList}
 use Rattle.overlay.specs.declared.list.NewList.TheVariants as L
+
+-- with what was given as the name of an entry too
+abbrev pub copied_of : Bor (List ℕ) → Bor (List ℕ) → Copied
+copied_of img given = record { img = img; given = given; new_name = given }
 
 -- the row of a name: none, the name given alone, the new name and an inode
 abbrev pub row_bytes : List ℕ → List ℕ → NewRow → List ℕ
@@ -28,7 +34,7 @@ gap_piece g = record { row = g.start; after = g.end; bytes = [] }
 
 module _ (img given newName : List ℕ) where
   abbrev pub row_piece : NewRows → Piece
-  row_piece n = record { row = n.row; after = n.after; bytes = row_bytes given newName n.new }
+  row_piece n = record { row = n.gap.start; after = n.gap.end; bytes = row_bytes given newName n.new }
 
   abbrev pub changed_bytes : NewRows → List ℕ
   changed_bytes n = number_bytes n.count ++ spliced img n.first (gap_piece n.lower ∷ (row_piece n ∷ (gap_piece n.upper ∷ []))) n.end

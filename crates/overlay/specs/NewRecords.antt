@@ -16,7 +16,7 @@ use Rattle.change.specs.Cuts.{count_after}
 use Rattle.change.specs.Splices.{Piece, spliced}
 use Rattle.meld.specs.Merged.{changes_anew}
 use Rattle.survey.specs.declared.refusal.Refusal.{Refusal}
-use Rattle.change.specs.declared.section.Sections.{Sections}
+use Rattle.survey.specs.declared.store.Sections.{Sections}
 use Rattle.change.specs.declared.cut.Cut.{Cut}
 use Rattle.overlay.specs.NewLists.{list_bytes}
 use Rattle.overlay.specs.declared.list.Copied.{Copied}
@@ -64,14 +64,14 @@ module _ (img given newName : List ℕ) where
   record_row e = go e.new
     where
       go : NewRecord → List ℕ
-      go N.Same = between img e.row e.after
+      go N.Same = between img e.gap.start e.gap.end
       go N.Tombstone = number_bytes e.inode ++ number_bytes 0
       go N.Given = number_bytes e.inode ++ given
       go (N.Directory n) = number_bytes e.inode ++ directory_bytes n
-      go (N.Updated n) = number_bytes e.inode ++ updated_bytes img given n e.after
+      go (N.Updated n) = number_bytes e.inode ++ updated_bytes img given n e.gap.end
 
   abbrev pub record_piece : Edit → Piece
-  record_piece e = record { row = e.row; after = e.after; bytes = record_row e }
+  record_piece e = record { row = e.gap.start; after = e.gap.end; bytes = record_row e }
 
   abbrev pub record_pieces : List Edit → List Piece
   record_pieces [] = []
@@ -79,7 +79,7 @@ module _ (img given newName : List ℕ) where
 
   -- what comes before a record, and the record
   abbrev pub edit_bytes : Lead → Edit → List ℕ
-  edit_bytes lead e = lead_bytes img lead e.row ++ record_row e
+  edit_bytes lead e = lead_bytes img lead e.gap.start ++ record_row e
 
   -- the image with these records changed; behind another that changes, the rest of it
   abbrev pub edited_image : Lead → List Edit → List ℕ
@@ -110,10 +110,10 @@ WritesOne c p n old r new = WritesAll c p n [] old r new
 
 -- another record of the inode where the records are cut
 abbrev pub edit_at : Cut → ℕ → NewRecord → Edit
-edit_at c i r = record { inode = i; row = c.row; after = c.after; new = r }
+edit_at c i r = record { inode = i; gap = c.gap; new = r }
 
 abbrev pub replaced_of : Cut → ℕ → NewRecord → NewLive
-replaced_of c i r = record { count = count_after c.count c.place true; first = c.first; edit = edit_at c i r }
+replaced_of c i r = record { count = count_after c.rows.count c.place true; first = c.rows.first; edit = edit_at c i r }
 
 abbrev pub unchanged_of : Cut → ℕ → NewLive
-unchanged_of c i = record { count = c.count; first = c.first; edit = edit_at c i N.Same }
+unchanged_of c i = record { count = c.rows.count; first = c.rows.first; edit = edit_at c i N.Same }

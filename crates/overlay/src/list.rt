@@ -1,21 +1,35 @@
 // A list by name of a directory delta, afterwards: as it is, or with the row of a name put, changed or taken out.
 ghost use Rattle.std.specs.Prelude.{◌≡◌};
 ghost use Rattle.wire.specs.Put.{Put};
-ghost use Rattle.overlay.specs.NewLists.{row_bytes, changed_bytes, list_bytes, kept_of};
+ghost use Rattle.overlay.specs.NewLists.{copied_of, row_bytes, changed_bytes, list_bytes, kept_of};
 
 use change::copy::put_between;
+use change::cut::Gap;
 use wire::number::put_number;
 use wire::part::Part;
 use wire::put::put_part;
 use wire::text::put_text;
 
 // What a new image is copied from: the old one; what was given, a record or the name of a row that is a name alone; the name of an entry,
-// which is another only in a rename.
+// which is another only in a rename. Definitions take the three texts: they speak of bytes, and a `Copied` holds borrows.
 #[derive(Clone, Copy)]
 pub struct Copied<'a> {
     pub img: &'a [u8],
     pub given: &'a [u8],
     pub new_name: &'a [u8],
+}
+
+impl<'a> Copied<'a> {
+    // With what was given as the name of an entry too.
+    pub fn of(img: &'a [u8], given: &'a [u8]) -> Copied<'a>
+        ensures { result ≡ copied_of img.entry given.entry }
+    {
+        Copied {
+            img,
+            given,
+            new_name: given,
+        }
+    }
 }
 
 // The row of a name, afterwards.
@@ -28,22 +42,14 @@ pub enum NewRow {
     Entry(u64),
 }
 
-// A part of a list that goes: two places and no `Part`, as `put_between` takes them. Only a rename inside one directory has one that isn't
-// empty: there a second name's row goes.
-#[derive(Clone, Copy)]
-pub struct Gap {
-    pub start: usize,
-    pub end: usize,
-}
-
-// `count` rows from `first` to `end`. What stands from `row` to `after` gives way to the row of a name; the gaps are below it and above it.
+// `count` rows from `first` to `end`. What stands in the gap gives way to the row of a name; below it and above it are two more, to which
+// nothing comes. Only a rename inside one directory has one of these that isn't empty: there a second name's row goes.
 #[derive(Clone, Copy)]
 pub struct NewRows {
     pub count: u64,
     pub first: usize,
     pub lower: Gap,
-    pub row: usize,
-    pub after: usize,
+    pub gap: Gap,
     pub new: NewRow,
     pub upper: Gap,
     pub end: usize,
@@ -86,16 +92,13 @@ fn put_row(buf: &mut [u8], at: usize, copied: Copied, new: NewRow) -> usize
 fn put_rows(buf: &mut [u8], at: usize, copied: Copied, rows: NewRows) -> usize
     ensures { Put buf.old at (changed_bytes copied.entry.img.now copied.entry.given.now copied.entry.new_name.now rows) result buf.new }
 {
-    let new = rows.new;
-    let lower = rows.lower;
-    let upper = rows.upper;
     let img = copied.img;
     let first = put_number(buf, at, rows.count);
-    let below = put_between(buf, first, img, rows.first, lower.start);
-    let row = put_between(buf, below, img, lower.end, rows.row);
-    let after = put_row(buf, row, copied, new);
-    let above = put_between(buf, after, img, rows.after, upper.start);
-    put_between(buf, above, img, upper.end, rows.end)
+    let below = put_between(buf, first, img, rows.first, rows.lower.start);
+    let row = put_between(buf, below, img, rows.lower.end, rows.gap.start);
+    let after = put_row(buf, row, copied, rows.new);
+    let above = put_between(buf, after, img, rows.gap.end, rows.upper.start);
+    put_between(buf, above, img, rows.upper.end, rows.end)
 }
 
 // A list, its count first.

@@ -28,30 +28,21 @@ pub fn insert_new_node(
     }
     let cut = cut_at(img, sections.live, &RecordOf { ino });
     let new = replaced(cut, ino, NewRecord::Given);
-    let copied = Copied {
-        img,
-        given: delta,
-        new_name: delta,
-    };
-    write_record(copied, sections, new, target)
+    write_record(Copied::of(img, delta), sections, new, target)
 }
 
-// Replaces the live record by a tombstone.
+// Replaces the live record by a tombstone. Nothing is given: `img` only fills the place.
 pub fn tombstone(img: &[u8], ino: u64, target: &mut [u8]) -> Result<usize, Refusal>
     ensures { Changes (tombstoned usual img.now ino (length target.old)) target.old result target.new }
 {
     let sections = open_sections(img)?;
     let cut = cut_at(img, sections.live, &RecordOf { ino });
     let new = replaced(cut, ino, NewRecord::Tombstone);
-    let copied = Copied {
-        img,
-        given: img,
-        new_name: img,
-    };
-    write_record(copied, sections, new, target)
+    write_record(Copied::of(img, img), sections, new, target)
 }
 
-// Whether these are not the bytes of one delta, and no more.
+// Whether these are not the bytes of one delta, and no more. Beside `whole_fields` (update): what is read is a record here, and there a mask and its
+// fields.
 fn no_delta(given: &[u8]) -> bool
     ensures { result ≡ no_delta (given_record given.now) }
 {

@@ -1,12 +1,10 @@
 // A live record, afterwards.
 ghost use Rattle.wire.specs.Put.{Put};
-ghost use Rattle.std.specs.Prelude.{◌++◌};
-ghost use Rattle.wire.specs.Combinators.{opt_write};
-ghost use Rattle.image.specs.FieldLayout.{inode as inodeCodec};
-ghost use Rattle.overlay.specs.NewRecords.{directory_bytes, bare_bytes, change_bytes, updated_bytes, lead_bytes, edit_bytes};
+ghost use Rattle.overlay.specs.NewRecords.{directory_bytes, bare_bytes, change_bytes, updated_bytes, lead_bytes, record_row, edit_bytes};
 
 use crate::list::{Copied, NewList, put_list};
 use change::copy::put_between;
+use change::cut::Gap;
 use image::field::Inode;
 use image::kind::FileType;
 use meld::merged::put_changes;
@@ -57,12 +55,11 @@ pub enum NewRecord {
     Updated(Updated),
 }
 
-// The live record of an inode. What stands from `row` to `after` gives way to it.
+// The live record of an inode. What stands in the gap gives way to it.
 #[derive(Clone, Copy)]
 pub struct Edit {
     pub inode: u64,
-    pub row: usize,
-    pub after: usize,
+    pub gap: Gap,
     pub new: NewRecord,
 }
 
@@ -87,18 +84,13 @@ pub struct Head {
 fn put_directory(buf: &mut [u8], at: usize, copied: Copied, directory: NewDirectory) -> usize
     ensures { Put buf.old at (directory_bytes copied.entry.img.now copied.entry.given.now copied.entry.new_name.now directory) result buf.new }
 {
-    let attr_delta = directory.attr_delta;
-    let xattrs = attr_delta.xattrs;
-    let parent = directory.parent;
-    let added = directory.added;
-    let removed = directory.removed;
     let img = copied.img;
-    let fields = put_number(buf, at, 1);
-    let list = put_attr_delta(buf, fields, attr_delta);
-    let change = put_list_if(buf, list, img, xattrs);
-    let entries = put_maybe::<Inode>(buf, change, img, parent);
-    let names = put_list(buf, entries, copied, added);
-    put_list(buf, names, copied, removed)
+    let fields = put_number(buf, at, FileType::Directory.code());
+    let list = put_attr_delta(buf, fields, directory.attr_delta);
+    let change = put_list_if(buf, list, img, directory.attr_delta.xattrs);
+    let entries = put_maybe::<Inode>(buf, change, img, directory.parent);
+    let names = put_list(buf, entries, copied, directory.added);
+    put_list(buf, names, copied, directory.removed)
 }
 
 // A change by kind that changes nothing: of a directory no parent and two empty lists, else one 0.
@@ -132,25 +124,14 @@ fn put_new_change(
 }
 
 // A delta with other fields, from its code on, in place of a record that ends at `after`.
-fn put_updated(
-    buf: &mut [u8],
-    at: usize,
-    img: &[u8],
-    given: &[u8],
-    updated: Updated,
-    after: usize,
-) -> usize
-    ensures { Put buf.old at (updated_bytes img.now given.now updated after) result buf.new }
+fn put_updated(buf: &mut [u8], at: usize, copied: Copied, updated: Updated, after: usize) -> usize
+    ensures { Put buf.old at (updated_bytes copied.entry.img.now copied.entry.given.now updated after) result buf.new }
 {
-    let attr_delta = updated.attr_delta;
-    let new = updated.new;
-    let old = updated.old;
-    let change = updated.change;
-    let kind = updated.kind;
-    let fields = put_number(buf, at, kind.number() + 1);
-    let list = put_attr_delta(buf, fields, attr_delta);
-    let rest = put_changes(buf, list, img, given, new, old);
-    put_new_change(buf, rest, img, kind, change, after)
+    let img = copied.img;
+    let fields = put_number(buf, at, updated.kind.code());
+    let list = put_attr_delta(buf, fields, updated.attr_delta);
+    let rest = put_changes(buf, list, img, copied.given, updated.new, updated.old);
+    put_new_change(buf, rest, img, updated.kind, updated.change, after)
 }
 
 // What comes before the row of a record.
@@ -167,52 +148,38 @@ fn put_lead(buf: &mut [u8], at: usize, img: &[u8], lead: Lead, row: usize) -> us
     }
 }
 
-// The same, and the inode of a record that is written anew.
-fn put_row_start(
-    buf: &mut [u8],
-    at: usize,
-    img: &[u8],
-    lead: Lead,
-    row: usize,
-    inode: Option<u64>,
-) -> usize
-    ensures { Put buf.old at (lead_bytes img.now lead row ++ opt_write inodeCodec inode) result buf.new }
-{
-    let start = put_lead(buf, at, img, lead, row);
-    match inode {
-        Some(number) => put_number(buf, start, number),
-        None => start,
-    }
-}
-
-// What comes before a record, and the record. It is matched before anything is written: what is read of it later has to be copied first.
+// What comes before a record, and the record.
 pub fn put_edit(buf: &mut [u8], at: usize, copied: Copied, lead: Lead, edit: &Edit) -> usize
     ensures { Put buf.old at (edit_bytes copied.entry.img.now copied.entry.given.now copied.entry.new_name.now lead edit.now) result buf.new }
 {
-    let img = copied.img;
-    let given = copied.given;
-    let new = edit.new;
-    let inode = Some(edit.inode);
-    match new {
-        NewRecord::Same => {
-            let row = put_row_start(buf, at, img, lead, edit.row, None);
-            put_between(buf, row, img, edit.row, edit.after)
-        }
+    let row = put_lead(buf, at, copied.img, lead, edit.gap.start);
+    put_record(buf, row, copied, edit)
+}
+
+// A record, its inode first. Matched before anything is written, so that the whole record isn't copied. Records are values, no closures that
+// write: others come as one slice.
+fn put_record(buf: &mut [u8], at: usize, copied: Copied, edit: &Edit) -> usize
+    ensures { Put buf.old at (record_row copied.entry.img.now copied.entry.given.now copied.entry.new_name.now edit.now) result buf.new }
+{
+    let inode = edit.inode;
+    let gap = edit.gap;
+    match edit.new {
+        NewRecord::Same => put_between(buf, at, copied.img, gap.start, gap.end),
         NewRecord::Tombstone => {
-            let code = put_row_start(buf, at, img, lead, edit.row, inode);
+            let code = put_number(buf, at, inode);
             put_number(buf, code, 0)
         }
         NewRecord::Given => {
-            let code = put_row_start(buf, at, img, lead, edit.row, inode);
-            put_bytes(buf, code, given)
+            let code = put_number(buf, at, inode);
+            put_bytes(buf, code, copied.given)
         }
         NewRecord::Directory(directory) => {
-            let code = put_row_start(buf, at, img, lead, edit.row, inode);
+            let code = put_number(buf, at, inode);
             put_directory(buf, code, copied, directory)
         }
         NewRecord::Updated(updated) => {
-            let code = put_row_start(buf, at, img, lead, edit.row, inode);
-            put_updated(buf, code, img, given, updated, edit.after)
+            let code = put_number(buf, at, inode);
+            put_updated(buf, code, copied, updated, gap.end)
         }
     }
 }

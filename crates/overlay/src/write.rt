@@ -2,15 +2,15 @@
 ghost use Rattle.std.specs.Prelude.{◌≤◌, ◌∷◌, ◌≡◌};
 ghost use Rattle.wire.specs.Lists.{last_count};
 ghost use Rattle.wire.specs.Put.{Put};
-ghost use Rattle.overlay.specs.NewRecords.{lead_in, new_image, Puts, WritesOne, WritesAll, replaced_of, unchanged_of};
+ghost use Rattle.overlay.specs.NewRecords.{lead_in, new_image, Puts, WritesOne, WritesAll, replaced_of, unchanged_of, edit_at};
 
 use crate::list::Copied;
 use crate::record::{Edit, Head, Lead, NewRecord, put_edit};
 use change::copy::put_between;
-use change::cut::{Cut, count_after};
+use change::cut::Cut;
 use change::room::write_if_room;
-use change::section::Sections;
 use survey::refusal::Refusal;
+use survey::store::Sections;
 
 // The live records afterwards: `count` of them, and those from `first` on with one changed.
 #[derive(Clone, Copy)]
@@ -20,20 +20,16 @@ pub struct NewLive {
     pub edit: Edit,
 }
 
-// Another record of the inode where the records are cut. A clause on the count, and no fact of `Cut`: `unchanged` asks nothing of its cut.
+// Another record of the inode where the records are cut. A clause on the count, and no fact of `Cut`: a `Cut` is a plain value, and `unchanged`
+// takes any.
 pub fn replaced(cut: Cut, ino: u64, new: NewRecord) -> NewLive
-    requires { cut.count ≤ last_count }
+    requires { cut.rows.count ≤ last_count }
     ensures { result ≡ replaced_of cut ino new }
 {
     NewLive {
-        count: count_after(cut.count, cut.place, true),
-        first: cut.first,
-        edit: Edit {
-            inode: ino,
-            row: cut.row,
-            after: cut.after,
-            new,
-        },
+        count: cut.count_after(true),
+        first: cut.rows.first,
+        edit: edit_at(cut, ino, new),
     }
 }
 
@@ -42,14 +38,20 @@ pub fn unchanged(cut: Cut, ino: u64) -> NewLive
     ensures { result ≡ unchanged_of cut ino }
 {
     NewLive {
-        count: cut.count,
-        first: cut.first,
-        edit: Edit {
-            inode: ino,
-            row: cut.row,
-            after: cut.after,
-            new: NewRecord::Same,
-        },
+        count: cut.rows.count,
+        first: cut.rows.first,
+        edit: edit_at(cut, ino, NewRecord::Same),
+    }
+}
+
+// The record where the records are cut.
+fn edit_at(cut: Cut, ino: u64, new: NewRecord) -> Edit
+    ensures { result ≡ edit_at cut ino new }
+{
+    Edit {
+        inode: ino,
+        gap: cut.gap,
+        new,
     }
 }
 
@@ -65,7 +67,7 @@ pub fn write_record(
     write_records(copied, sections, new, &[], target)
 }
 
-// The same with others changed behind it, the least inode first. For rename.
+// The same with others changed behind it, the least inode first. For rename, which is to come: no call has others yet.
 pub fn write_records(
     copied: Copied,
     sections: Sections,
@@ -91,7 +93,7 @@ fn put_changed(
     ensures { Put buf.old 0 (new_image copied.entry.img.now copied.entry.given.now copied.entry.new_name.now sections new.now others.now) result buf.new }
 {
     let lead = lead_in(sections, new.count, new.first);
-    put_images(buf, 0, copied, lead, &new.edit, others)
+    put_image(buf, copied, lead, &new.edit, others)
 }
 
 fn lead_in(sections: Sections, count: u64, first: usize) -> Lead
@@ -105,21 +107,14 @@ fn lead_in(sections: Sections, count: u64, first: usize) -> Lead
 }
 
 // What comes before the first record that changes, that record, the others with what is between, and the rest of the image.
-fn put_images(
-    buf: &mut [u8],
-    at: usize,
-    copied: Copied,
-    lead: Lead,
-    one: &Edit,
-    others: &[Edit],
-) -> usize
-    ensures { Puts buf.old at copied.entry lead (one.now ∷ others.now) result buf.new }
+fn put_image(buf: &mut [u8], copied: Copied, lead: Lead, one: &Edit, others: &[Edit]) -> usize
+    ensures { Puts buf.old 0 copied.entry lead (one.now ∷ others.now) result buf.new }
 {
-    let mut next = put_edit(buf, at, copied, lead, one);
-    let mut after = one.after;
+    let mut next = put_edit(buf, 0, copied, lead, one);
+    let mut after = one.gap.end;
     for other in others {
         next = put_edit(buf, next, copied, Lead::Behind(after), other);
-        after = other.after;
+        after = other.gap.end;
     }
     put_between(buf, next, copied.img, after, copied.img.len())
 }

@@ -28,6 +28,8 @@ use Rattle.image.specs.FieldLayout.{inode}
 use Rattle.passes.specs.declared.inode.Held.{Held}
 use Rattle.passes.specs.Held.{held, Finds, FindsRows}
 use Rattle.image.specs.Places.{Ends, place_under}
+use Rattle.image.specs.Rows.{ReadsRows}
+use Rattle.image.specs.declared.rows.Rows.{Rows}
 use Rattle.wire.proofs.Readers.{handed}
 use Rattle.image.proofs.OneForm.{inode-one}
 use Rattle.image.proofs.Passing.{ends-got, ends-list, ends-unlisted, Passed, passed-unkeyed, passed-stop, passed-all}
@@ -108,8 +110,8 @@ module _ {A : Type 0} (value : Codec A) (img : List ℕ) (sought : ℕ) where
 -- ---- a list, and its rows
 
 module _ {img : List ℕ} {h : Held} {sought : ℕ} where
-  module _ {at : ℕ} {o : Result (ℕ × ℕ) Fault} (c : Reads img (number_read last_count) at o) where
-    pub finds-list : {n first : ℕ} {r : Result (Option ℕ × ℕ) Fault} → o ≡ Ok (n, first) → FindsRows img h sought first n r → Finds img h sought at r
+  module _ {at : ℕ} {o : Result Rows Fault} (c : ReadsRows img last_count at o) where
+    pub finds-list : {list : Rows} {r : Result (Option ℕ × ℕ) Fault} → o ≡ Ok list → FindsRows img h sought list.first list.count r → Finds img h sought at r
     finds-list {r = r} d g = record {
       ends = ends-list by_number inode (held h) last_count refl inode-one (held-one h) c d g.ends;
       found = let e = rw d at c in rw (e.same) g.found;

@@ -11,6 +11,7 @@ ghost use Rattle.passes.specs.Held.{held, Finds, FindsRows};
 use crate::node::pass_node;
 use crate::record::pass_record;
 use image::field::LAST_WORD;
+use image::rows::{Rows, read_rows};
 use wire::fault::Fault;
 use wire::number::read_number;
 
@@ -26,16 +27,13 @@ pub fn inode_after(img: &[u8], at: usize, before: Option<u64>) -> Result<(u64, u
     ensures { Reads img.now (only (after by_number before) inode).read at result }
 {
     let (number, next) = read_number(img, at, u64::MAX)?;
-    let Some(last) = before else {
-        return Ok((number, next));
-    };
-    if number <= last {
+    if before.is_some_and(|last| number <= last) {
         return Err(Fault::Malformed);
     }
     Ok((number, next))
 }
 
-// Passes what stands under an inode. A `match`, no type parameter: the laws of a walk lay nodes and records over one another, by this value.
+// Passes what stands under an inode. A `match`, no type parameter: the laws of a walk speak of both kinds of list at once, so the kind is a value.
 pub fn pass_held(img: &[u8], at: usize, what: Held) -> Result<usize, Fault>
     ensures { Ends img.now (held what).read at result }
 {
@@ -54,26 +52,20 @@ pub fn find_inode(
 ) -> Result<(Option<usize>, usize), Fault>
     ensures { Finds img.now what sought at result }
 {
-    let (count, first) = read_number(img, at, LAST_WORD)?;
-    find_from(img, first, count, what, sought)
+    let rows = read_rows(img, at, LAST_WORD)?;
+    find_in(img, rows, what, sought)
 }
 
-// The same of `count` rows, the first of which is at `first`.
+// The same of rows without their count. The first in the image, as at `Rows`.
 #[tactic(auto, using(crate::proofs::Inodes::finds))]
-fn find_from(
-    img: &[u8],
-    first: usize,
-    count: u64,
-    what: Held,
-    sought: u64,
-) -> Result<(Option<usize>, usize), Fault>
-    requires { first ≤ length img.now }
-    ensures { FindsRows img.now what sought first count result }
+fn find_in(img: &[u8], rows: Rows, what: Held, sought: u64) -> Result<(Option<usize>, usize), Fault>
+    requires { rows.first ≤ length img.now }
+    ensures { FindsRows img.now what sought rows.first rows.count result }
 {
-    let mut here = first;
+    let mut here = rows.first;
     let mut before: Option<u64> = None;
     let mut place: Option<usize> = None;
-    for _row in 0..count {
+    for _row in 0..rows.count {
         let (inode, start) = inode_after(img, here, before)?;
         here = pass_held(img, start, what)?;
         place = place.or((inode == sought).then_some(start));

@@ -1,4 +1,5 @@
-// Passing over a node of the base.
+// Passing over a node of the base. Beside `read_node` (nodes), which would do it too: but every call passes the whole image, and that takes up to a
+// fifth more instructions by what reads it.
 ghost use Rattle.std.specs.Prelude.{◌≤◌, length};
 ghost use Rattle.image.specs.FileTypes.{kind_meant};
 ghost use Rattle.image.specs.NodeLayout.{meta, body_part, node};
@@ -47,9 +48,7 @@ fn pass_body(img: &[u8], at: usize, kind: FileType) -> Result<usize, Fault>
         }
         FileType::RegularFile => Size::pass(img, at),
         FileType::Symlink => Target::pass(img, at),
-        FileType::NamedPipe => Ok(at),
-        FileType::CharDevice => Word::pass(img, at),
-        FileType::BlockDevice => Word::pass(img, at),
-        FileType::Socket => Ok(at),
+        FileType::CharDevice | FileType::BlockDevice => Word::pass(img, at),
+        FileType::NamedPipe | FileType::Socket => Ok(at),
     }
 }

@@ -1,11 +1,11 @@
-// Passing over a record of a layer.
+// Passing over a record of a layer. Beside `read_entry_delta` (deltas), as `pass_node` beside `read_node`.
 ghost use Rattle.std.specs.Prelude.{◌≤◌, length};
 ghost use Rattle.image.specs.Meaning.{directory};
 ghost use Rattle.image.specs.FileTypes.{kind_meant};
 ghost use Rattle.image.specs.RecordLayout.{later_flags, fields, change_part, layer_record};
 ghost use Rattle.image.specs.Places.{Ends};
 
-use image::field::{Field, Inode, Moment, Size, Target, Word, pass_if, pass_maybe};
+use image::field::{Field, Inode, LAST_MASK, Moment, Size, Target, Word, pass_if, pass_maybe};
 use image::kind::{FileType, read_code};
 use image::name::{Changes, Under, pass_names};
 use wire::fault::Fault;
@@ -29,7 +29,7 @@ pub fn pass_record(img: &[u8], at: usize) -> Result<usize, Fault>
 fn pass_fields(img: &[u8], at: usize) -> Result<usize, Fault>
     ensures { Ends img.now fields.read at result }
 {
-    let (bits, mode) = read_number(img, at, 511)?;
+    let (bits, mode) = read_number(img, at, LAST_MASK)?;
     let owner = pass_if::<Word>(img, mode, bits % 2)?;
     let group = pass_if::<Word>(img, owner, bits / 2 % 2)?;
     let links = pass_if::<Word>(img, group, bits / 2 / 2 % 2)?;
@@ -37,7 +37,7 @@ fn pass_fields(img: &[u8], at: usize) -> Result<usize, Fault>
     pass_later_fields(img, times, bits / 2 / 2 / 2 / 2)
 }
 
-// Passes the times and the attribute changes that the upper bits of a mask say are there.
+// Passes the times and the attribute changes that the upper bits of a mask say are there. The place in the image, as in `pass_if`.
 #[tactic(auto, using(image::proofs::Passing::passes))]
 fn pass_later_fields(img: &[u8], at: usize, bits: u64) -> Result<usize, Fault>
     requires { (bits ≤ 31) × (at ≤ length img.now) }
@@ -58,10 +58,9 @@ fn pass_change(img: &[u8], at: usize, kind: FileType) -> Result<usize, Fault>
         FileType::Directory => pass_directory(img, at),
         FileType::RegularFile => pass_maybe::<Size>(img, at),
         FileType::Symlink => pass_maybe::<Target>(img, at),
-        FileType::NamedPipe => Word::pass(img, at),
-        FileType::CharDevice => Word::pass(img, at),
-        FileType::BlockDevice => Word::pass(img, at),
-        FileType::Socket => Word::pass(img, at),
+        FileType::NamedPipe | FileType::CharDevice | FileType::BlockDevice | FileType::Socket => {
+            Word::pass(img, at)
+        }
     }
 }
 

@@ -4,7 +4,7 @@ use Rattle.std.specs.Prelude.{None, Result, Ok, Err}
 use mathlib.Core.Path.{◌≡◌, refl, sym, ap, ◌∙◌}
 use mathlib.Core.Bool.{true, false}
 use mathlib.Core.List.{List, [], ◌∷◌, ◌++◌, append-nil, append_assoc}
-use Prim.Native.Nat.{ℕ, suc, ◌+◌, ◌≤◌, ◌<◌}
+use Prim.Native.Nat.{ℕ, suc, ◌+◌, ◌^◌, ◌≤◌, ◌<◌}
 use native.Mathlib.Omega.{arith}
 use lib.ListN.{length, drop, length-append, drop_of_length-le}
 use borrow.Author.Tests.{le-leb, lt-leb, eq-eqb, ne_eqb}
@@ -21,6 +21,9 @@ use Rattle.image.specs.FieldLayout.{inode}
 use Rattle.image.specs.NodeLayout.{base}
 use Rattle.image.specs.RecordLayout.{layer_record, records}
 use Rattle.image.specs.StoreLayout.{batches}
+use Rattle.image.specs.Rows.{RowsAt}
+use Rattle.image.specs.declared.rows.Rows.{Rows}
+use Rattle.image.proofs.Listed.{rows-read}
 use Rattle.survey.specs.Gathering.{batch_head}
 use Rattle.image.specs.RoundTrip.{write_image}
 use Rattle.writers.specs.Batches.{head_meant}
@@ -43,13 +46,12 @@ use Rattle.survey.specs.declared.refusal.Refusal.{Refusal}
 use Rattle.survey.specs.declared.refusal.Refusal.TheVariants as D
 use Rattle.waiting.specs.declared.batch.Queue.{Queue}
 use Rattle.waiting.specs.declared.write.Frozen.{Frozen}
-use Rattle.change.specs.declared.section.Sections.{Sections}
+use Rattle.survey.specs.declared.store.Sections.{Sections}
 use Rattle.change.proofs.Sections.{span-part, span-front, span-reads, same_Ok, value-ok, store_bytes, stands-fits}
 use Rattle.change.proofs.Finishing.{changes-refused, changes-made}
-use Rattle.queue.proofs.Staging.{stands-tail}
 use Rattle.change.proofs.Batches.{head_of, batch_bytes, queue_bytes, batches-bytes, queue-more}
 use Rattle.waiting.proofs.Queues.{sum-queue}
-use Rattle.change.proofs.Queued.{stands-counted, stands-count, stands-queue}
+use Rattle.change.proofs.Queued.{stands-counted, stands-count, stands-queue, stands-tail}
 
 not-empty : {A : Type 0} (l : List A) → (length l ≡ 0 → ⊥) → is_empty l ≡ false
 not-empty [] h = absurd (h refl)
@@ -85,7 +87,7 @@ frozen-bytes time s =
 -- ---- the call
 
 -- the count of live records
-pub live-read : {img : List ℕ} {p : Sections} {s : Store} → Stands img p s → {o : Result (ℕ × ℕ) Fault} → Reads img (number_read last_count) p.live o
+live-read : {img : List ℕ} {p : Sections} {s : Store} → Stands img p s → {o : Result (ℕ × ℕ) Fault} → Reads img (number_read last_count) p.live o
     → o ≡ Ok (length s.live.rows, p.live + length (number_bytes (length s.live.rows)))
 live-read {s = s} w l =
     span-reads (number_to last_count refl)
@@ -108,7 +110,7 @@ module _ {img : List ℕ} {p : Sections} {s : Store} (w : Stands img p s) (depth
     placed : k.count ≡ Ok place
     placed = value-ok (0, 0) (stands-counted w k.reads) refl
 
-    counted : queue.count ≡ length s.batches
+    counted : queue.rows.count ≡ length s.batches
     counted = k.totals.counts ∙ stands-count w k.reads placed
 
     sum_is : (g : HeadParts → ℕ) → sum_from g place.0 (drop place.1 img) ≡ sum_of (λ b. g (head_of b)) s.batches
@@ -121,17 +123,17 @@ module _ {img : List ℕ} {p : Sections} {s : Store} (w : Stands img p s) (depth
         → Changes (freeze_live usual img depth bytes operations time (length old)) old (Err D.AtCapacity) old
     freeze-full h = changes-refused (Call.freeze limits time) w (rw (lt-leb 1000000000 time.nanos ok, full_is, h))
 
-    module _ (h : at_capacity queue depth bytes operations ≡ false) {o : Result (ℕ × ℕ) Fault}
-        (l : Reads img (number_read last_count) p.live o) {x : ℕ × ℕ} (y : o ≡ Ok x) where
-      live-count : x.0 ≡ length s.live.rows
-      live-count = ap (λ (x : ℕ × ℕ). x.0) (same_Ok (sym y ∙ live-read w l))
+    module _ (h : at_capacity queue depth bytes operations ≡ false) {live : Rows}
+        (l : RowsAt img last_count p.live live) where
+      live-count : live.count ≡ length s.live.rows
+      live-count = let o = rows-read l in ap (λ (x : ℕ × ℕ). x.0) (same_Ok (sym (value-ok (0, 0) (live-read w o.1) o.2) ∙ live-read w o.1))
 
-      pub freeze-empty : {old : List ℕ} → x.0 ≡ 0 → Changes (freeze_live usual img depth bytes operations time (length old)) old (Err D.LiveEmpty) old
+      pub freeze-empty : {old : List ℕ} → live.count ≡ 0 → Changes (freeze_live usual img depth bytes operations time (length old)) old (Err D.LiveEmpty) old
       freeze-empty z =
           changes-refused (Call.freeze limits time) w
           (rw (lt-leb 1000000000 time.nanos ok, full_is, h, drop_of_length-le s.live.rows {i = 0} (omega (arith, live-count, z))))
 
-      module _ (some-live : x.0 ≡ 0 → ⊥) {u : Result (Tail × ℕ) Fault} (r : Reads img tail.read p.tail (meant tail_meant u)) {v : Tail × ℕ} (z : u ≡ Ok v) where
+      module _ (some-live : live.count ≡ 0 → ⊥) {u : Result (Tail × ℕ) Fault} (r : Reads img tail.read p.tail (meant tail_meant u)) {v : Tail × ℕ} (z : u ≡ Ok v) where
         abbrev staged : Tail
         staged = v.0
 
@@ -144,14 +146,16 @@ module _ {img : List ℕ} {p : Sections} {s : Store} (w : Stands img p s) (depth
         next-is : staged.next_id ≡ s.next
         next-is = ap (λ (x : TailParts). x.0) staged-is
 
-        pub freeze-last : {old : List ℕ} → staged.next_id ≡ edge
+        pub freeze-last : {old : List ℕ} → (staged.next_id + 1 < 2 ^ 64 → ⊥)
             → Changes (freeze_live usual img depth bytes operations time (length old)) old (Err D.CountFull) old
-        freeze-last e =
+        freeze-last n =
+            let low = (stands-fits w).next in
+            let e : staged.next_id ≡ edge = omega (arith, next-is, n) in
             changes-refused (Call.freeze limits time) w
             (rw (lt-leb 1000000000 time.nanos ok, full_is, h, live-not, eq-eqb s.next edge (sym next-is ∙ e)))
 
         abbrev one_more : BatchHead → Tail → Frozen
-        one_more head later = record { first = queue.first; count = queue.count + 1; head = head; tail = later }
+        one_more head later = record { batches = record { first = queue.rows.first; count = queue.rows.count + 1 }; head = head; tail = later }
 
         made_bytes : (head : BatchHead) (later : Tail) → head_meant head ≡ frozen_head (tail_meant staged) time
             → tail_meant later ≡ tail_after_id staged.next_id
@@ -165,12 +169,14 @@ module _ {img : List ℕ} {p : Sections} {s : Store} (w : Stands img p s) (depth
             let l = et ∙ ap tail_after_id next-is in
             λ i. span-part w.base i ++ (number_bytes (n i) ++ (q i ++ (batch_head.write (h i) ++ (span-part w.live i ++ (number_bytes 0 ++ tail.write (l i))))))
 
-        pub freeze-made : {old new : List ℕ} {answer : Result ℕ Refusal} (head : BatchHead) (later : Tail) → (staged.next_id ≡ edge → ⊥)
-            → head_meant head ≡ frozen_head (tail_meant staged) time → tail_meant later ≡ tail_after_id staged.next_id
+        pub freeze-made : {old new : List ℕ} {answer : Result ℕ Refusal} (head : BatchHead) (later : Tail) {next : ℕ}
+            → (staged.next_id + 1 < 2 ^ 64) × (next ≡ staged.next_id + 1)
+            → head_meant head ≡ frozen_head (tail_meant staged) time
+            → (later.next_id ≡ next) × (later.bytes ≡ 0) × (later.operations ≡ 0) × (later.request ≡ None)
             → Changes (if_fits (refrozen img p (one_more head later)) (length old)) old answer new
             → Changes (freeze_live usual img depth bytes operations time (length old)) old answer new
         unfolding result
         freeze-made head later n eh et =
             changes-made (Call.freeze limits time) w {bytes = refrozen img p (one_more head later)}
-            (rw (lt-leb 1000000000 time.nanos ok, full_is, h, live-not, ne_eqb s.next edge (λ y. n (next-is ∙ y))))
-            (made_bytes head later eh et ∙ sym (frozen-bytes time s))
+            (rw (lt-leb 1000000000 time.nanos ok, full_is, h, live-not, ne_eqb s.next edge (λ y. let z = n.0 in absurd (omega (arith, next-is, y)))))
+            (made_bytes head later eh (rw (et.0, et.1, et.2, et.3, n.1)) ∙ sym (frozen-bytes time s))

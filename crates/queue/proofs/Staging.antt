@@ -1,12 +1,12 @@
 -- Calls that change only what follows live: request and note.
 -- Assumes nothing.
-use mathlib.Core.Path.{◌≡◌, sym, ap, ◌∙◌}
-use mathlib.Core.Bool.{true, false, ◌||◌}
+use mathlib.Core.Path.{◌≡◌, refl, sym, ap, ◌∙◌}
+use mathlib.Core.Bool.{Bool, true, false, ◌||◌}
 use mathlib.Core.List.{List, ◌++◌}
 use Prim.Native.Nat.{ℕ, ◌+◌, ◌≤◌, ◌<◌}
 use lib.ListN.{length}
 use borrow.Author.Tests.{lt-ltb, le-ltb}
-use Rattle.std.specs.Prelude.{Option, Result, Ok, Err, IsOk}
+use Rattle.std.specs.Prelude.{Option, Result, Ok, Err}
 use Rattle.wire.specs.declared.fault.Fault.{Fault}
 use Rattle.wire.specs.Reading.{Reads, meant}
 use Rattle.image.specs.Meaning.{Store}
@@ -14,7 +14,6 @@ use Rattle.image.specs.NodeLayout.{base}
 use Rattle.image.specs.RecordLayout.{records}
 use Rattle.image.specs.StoreLayout.{batches}
 use Rattle.image.specs.RoundTrip.{write_image}
-use Rattle.image.proofs.RoundTrip.{read_fits}
 use Rattle.survey.specs.Reasons.{request_number}
 use Rattle.survey.specs.declared.reason.Reason.{Reason}
 use Rattle.writers.specs.Tails.{TailParts, tail, tail_meant}
@@ -25,13 +24,14 @@ use Rattle.rules.specs.Refusals.{past_count}
 use Rattle.rules.specs.Outcomes.{result}
 use Rattle.rules.specs.ChangeCalls.{request_freeze, record_mutation}
 use Rattle.change.specs.Changed.{Changes, if_fits}
-use Rattle.change.specs.Sections.{tail_of, Stands}
+use Rattle.change.specs.Sections.{Stands}
 use Rattle.change.specs.Sections.{between}
 use Rattle.waiting.specs.NewQueues.{restaged}
 use Rattle.survey.specs.declared.refusal.Refusal.{Refusal}
 use Rattle.survey.specs.declared.refusal.Refusal.TheVariants as D
-use Rattle.change.specs.declared.section.Sections.{Sections}
-use Rattle.change.proofs.Sections.{span-part, span-both, span-ok, span-value, store_bytes}
+use Rattle.survey.specs.declared.store.Sections.{Sections}
+use Rattle.change.proofs.Sections.{span-part, span-both, store_bytes}
+use Rattle.change.proofs.Queued.{stands-tail}
 use Rattle.change.proofs.Splicing.{three-first}
 use Rattle.change.proofs.Finishing.{changes-refused, changes-made}
 
@@ -46,30 +46,23 @@ requested r t = retailed (t.0, (t.1.0, (t.1.1.0, r)))
 abbrev requesting : Option Reason → Tail → Tail
 requesting q t = record { next_id = t.next_id; bytes = t.bytes; operations = t.operations; request = q }
 
--- the tail with one operation more, and so many bytes
-abbrev noting : ℕ → Tail → Tail
-noting n t = record { next_id = t.next_id; bytes = t.bytes + n; operations = t.operations + 1; request = t.request }
+-- the tail with other staged counts
+abbrev noting : ℕ → ℕ → Tail → Tail
+noting b o t = record { next_id = t.next_id; bytes = b; operations = o; request = t.request }
+
+not-false : (b : Bool) → (b ≡ false → ⊥) → b ≡ true
+not-false true h = refl
+not-false false h = absurd (h refl)
 
 module _ {img : List ℕ} {p : Sections} {s : Store} (w : Stands img p s) where
-  pub before-tail : between img 0 p.tail ≡ base.write s.base ++ (batches.write s.batches ++ records.write s.live)
+  before-tail : between img 0 p.tail ≡ base.write s.base ++ (batches.write s.batches ++ records.write s.live)
   before-tail = span-part (span-both w.base (span-both w.batches w.live))
 
-  pub restaged-bytes : (t : Tail) → restaged img p t ≡ write_image (retailed (tail_meant t) s)
+  restaged-bytes : (t : Tail) → restaged img p t ≡ write_image (retailed (tail_meant t) s)
   restaged-bytes t =
       ap (λ (b : List ℕ). b ++ tail.write (tail_meant t)) before-tail
       ∙ sym (three-first (base.write s.base) (batches.write s.batches) (records.write s.live) (tail.write (tail_meant t)))
       ∙ sym (store_bytes (retailed (tail_meant t) s))
-
-  -- what is read there
-  tail-fits : tail.Fits (tail_of s)
-  tail-fits = let f = read_fits img s w.is in (f.next, (f.bytes, (f.operations, f.request)))
-
-  module _ (o : Result (Tail × ℕ) Fault) (k : Reads img tail.read p.tail (meant tail_meant o)) where
-    pub tail-ok : IsOk o
-    tail-ok = span-ok tail tail_meant o w.tail tail-fits k
-
-    pub stands-tail : {x : Tail × ℕ} → o ≡ Ok x → tail_meant x.0 ≡ tail_of s
-    stands-tail y = span-value tail tail_meant o w.tail tail-fits k y
 
   -- ---- "request sets the reason"
 
@@ -83,21 +76,30 @@ module _ {img : List ℕ} {p : Sections} {s : Store} (w : Stands img p s) where
     unfolding result
     request-made {r} q h e =
         changes-made (Call.request r) w (rw (le-ltb 5 r h))
-        (restaged-bytes (requesting q x.0) ∙ (λ j. write_image (requested (e j) (stands-tail _ k y j) s)))
+        (restaged-bytes (requesting q x.0) ∙ (λ j. write_image (requested (e j) (stands-tail w _ k y j) s)))
 
     -- ---- "Note adds one operation and given bytes to the staged counts"
 
-    pub note-refused : (n : ℕ) {old : List ℕ} → (past_count (x.0.bytes + n) || past_count (x.0.operations + 1)) ≡ true
+    note-refused : (n : ℕ) {old : List ℕ} → (past_count (x.0.bytes + n) || past_count (x.0.operations + 1)) ≡ true
         → Changes (record_mutation usual img n (length old)) old (Err D.CountFull) old
     note-refused n h =
-        let e = stands-tail _ k y in
+        let e = stands-tail w _ k y in
         changes-refused (Call.note n) w (rw (← (ap (λ (t : TailParts). t.1.0) e), ← (ap (λ (t : TailParts). t.1.1.0) e), h))
 
-    pub note-made : (n : ℕ) {old new : List ℕ} {a : Result ℕ Refusal} → (past_count (x.0.bytes + n) || past_count (x.0.operations + 1)) ≡ false
-        → Changes (if_fits (restaged img p (noting n x.0)) (length old)) old a new
-        → Changes (record_mutation usual img n (length old)) old a new
-    unfolding result
-    note-made n h =
-        let e = stands-tail _ k y in
-        changes-made (Call.note n) w (rw (← (ap (λ (t : TailParts). t.1.0) e), ← (ap (λ (t : TailParts). t.1.1.0) e), h))
-        (restaged-bytes _ ∙ ap (λ (t : TailParts). write_image (retailed (t.0, (t.1.0 + n, (t.1.1.0 + 1, t.1.1.1))) s)) e)
+    pub note-bytes : (n : ℕ) {old : List ℕ} → (past_count (x.0.bytes + n) ≡ false → ⊥)
+        → Changes (record_mutation usual img n (length old)) old (Err D.CountFull) old
+    note-bytes n h = note-refused n (rw (not-false _ h) refl)
+
+    module _ (n : ℕ) {b : ℕ} (few : (past_count (x.0.bytes + n) ≡ false) × (b ≡ x.0.bytes + n)) where
+      pub note-operations : {old : List ℕ} → (past_count (x.0.operations + 1) ≡ false → ⊥)
+          → Changes (record_mutation usual img n (length old)) old (Err D.CountFull) old
+      note-operations h = note-refused n (rw (few.0, not-false _ h) refl)
+
+      pub note-made : {o : ℕ} → (past_count (x.0.operations + 1) ≡ false) × (o ≡ x.0.operations + 1) → {old new : List ℕ} {a : Result ℕ Refusal}
+          → Changes (if_fits (restaged img p (noting b o x.0)) (length old)) old a new
+          → Changes (record_mutation usual img n (length old)) old a new
+      unfolding result
+      note-made one =
+          let e = stands-tail w _ k y in
+          changes-made (Call.note n) w (rw (← (ap (λ (t : TailParts). t.1.0) e), ← (ap (λ (t : TailParts). t.1.1.0) e), few.0, one.0) refl)
+          (restaged-bytes _ ∙ rw (few.1, one.1) (ap (λ (t : TailParts). write_image (retailed (t.0, (t.1.0 + n, (t.1.1.0 + 1, t.1.1.1))) s)) e))

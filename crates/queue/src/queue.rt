@@ -1,25 +1,26 @@
 // The queue of batches, and what is staged for the next one.
-ghost use Rattle.std.specs.Prelude.{◌≡◌, ◌||◌, ◌+◌, ◌<◌, length};
-ghost use Rattle.wire.specs.Number.{edge};
+ghost use Rattle.std.specs.Prelude.{◌≡◌, ◌+◌, false, length, SomeIff};
 ghost use Rattle.survey.specs.Reasons.{reason_number, request_number};
 ghost use Rattle.writers.specs.Batches.{head_meant};
 ghost use Rattle.writers.specs.Tails.{tail_meant};
 ghost use Rattle.rules.specs.Queue.{reason_of};
-ghost use Rattle.waiting.specs.Queues.{at_capacity, frozen_head, tail_after_id};
+ghost use Rattle.waiting.specs.Queues.{at_capacity, frozen_head};
 ghost use Rattle.rules.specs.Initial.{usual};
 ghost use Rattle.rules.specs.Refusals.{past_count};
 ghost use Rattle.rules.specs.ChangeCalls.{request_freeze, record_mutation, freeze_live, pop_flushed_batch};
 ghost use Rattle.change.specs.Changed.{Changes};
 
 use change::batch::pass_batch;
+use change::room::write_if_room;
 use change::section::open_sections;
 use image::field::LAST_WORD;
-use survey::reason::Reason;
+use image::rows::{Rows, rows_at};
+use survey::batch::MOST_BATCHES;
+use survey::reason::{LAST_REASON, Reason};
 use survey::refusal::Refusal;
 use waiting::batch::{Queue, read_queue};
-use waiting::write::{Frozen, NewQueue, Popped, write_queue};
-use wire::number::read_number;
-use wire::time::Time;
+use waiting::write::{Frozen, put_refrozen, put_requeued, put_restaged};
+use wire::time::{LAST_NANO, Time};
 use writers::batch::BatchHead;
 use writers::tail::{Tail, read_tail};
 
@@ -28,7 +29,8 @@ pub fn request(img: &[u8], reason: u64, target: &mut [u8]) -> Result<usize, Refu
     ensures { Changes (request_freeze usual img.now reason (length target.old)) target.old result target.new }
 {
     let sections = open_sections(img)?;
-    if 5 < reason {
+    // `try_from` alone doesn't tell: it refuses 0 too, which takes a request back.
+    if LAST_REASON < reason {
         return Err(Refusal::BadArgument);
     }
     let (staged, _) = read_tail(img, sections.tail).unwrap();
@@ -36,7 +38,7 @@ pub fn request(img: &[u8], reason: u64, target: &mut [u8]) -> Result<usize, Refu
         request: Reason::try_from(reason).ok(),
         ..staged
     };
-    write_queue(img, sections, NewQueue::Staged(tail), target)
+    write_if_room(target, |buf| put_restaged(buf, img, sections, tail))
 }
 
 // Stages one operation more, and so many bytes.
@@ -49,18 +51,18 @@ pub fn record_mutation(
 {
     let sections = open_sections(img)?;
     let (staged, _) = read_tail(img, sections.tail).unwrap();
-    if passes_count(staged.bytes, staged.operations, additional_bytes) {
-        return Err(Refusal::CountFull);
-    }
+    let bytes = counted(staged.bytes, additional_bytes).ok_or(Refusal::CountFull)?;
+    let operations = counted(staged.operations, 1).ok_or(Refusal::CountFull)?;
     let tail = Tail {
-        bytes: staged.bytes + (additional_bytes as u32),
-        operations: staged.operations + 1,
+        bytes,
+        operations,
         ..staged
     };
-    write_queue(img, sections, NewQueue::Staged(tail), target)
+    write_if_room(target, |buf| put_restaged(buf, img, sections, tail))
 }
 
-// Makes live the last batch of the queue, unless the queue has reached one of the three limits.
+// Makes live the last batch of the queue, unless the queue has reached one of the three limits, which are numbers of the call, as C gives them. Three
+// parameters and no struct: it would be made and opened here alone.
 pub fn freeze_live(
     img: &[u8],
     depth: u64,
@@ -72,28 +74,28 @@ pub fn freeze_live(
     ensures { Changes (freeze_live usual img.now depth bytes operations wall_now (length target.old)) target.old result target.new }
 {
     let sections = open_sections(img)?;
-    if 1_000_000_000 <= wall_now.nanos {
+    if LAST_NANO < wall_now.nanos as u64 {
         return Err(Refusal::BadArgument);
     }
     let queue = read_queue(img, sections.batches);
     if flushing_at_capacity(queue, depth, bytes, operations) {
         return Err(Refusal::AtCapacity);
     }
-    let (live, _) = read_number(img, sections.live, LAST_WORD).unwrap();
-    if live == 0 {
+    let live = rows_at(img, sections.live, LAST_WORD);
+    if live.count == 0 {
         return Err(Refusal::LiveEmpty);
     }
     let (staged, _) = read_tail(img, sections.tail).unwrap();
-    if staged.next_id == u64::MAX {
-        return Err(Refusal::CountFull);
-    }
+    let next_id = staged.next_id.checked_add(1).ok_or(Refusal::CountFull)?;
     let frozen = Frozen {
-        first: queue.first,
-        count: queue.count + 1,
+        batches: Rows {
+            count: queue.rows.count + 1,
+            ..queue.rows
+        },
         head: frozen_head(staged, wall_now),
-        tail: tail_after(staged.next_id),
+        tail: Tail::unstaged(next_id),
     };
-    write_queue(img, sections, NewQueue::Frozen(frozen), target)
+    write_if_room(target, |buf| put_refrozen(buf, img, sections, frozen))
 }
 
 // Drops the front batch, whose id it must be.
@@ -101,35 +103,25 @@ pub fn pop_flushed_batch(img: &[u8], batch_id: u64, target: &mut [u8]) -> Result
     ensures { Changes (pop_flushed_batch usual img.now batch_id (length target.old)) target.old result target.new }
 {
     let sections = open_sections(img)?;
-    let (count, first) = read_number(img, sections.batches, 16).unwrap();
-    if count == 0 {
-        return Err(Refusal::NoBatch);
-    }
-    let (head, rest) = pass_batch(img, first).unwrap();
+    let batches = rows_at(img, sections.batches, MOST_BATCHES);
+    let count = batches.count.checked_sub(1).ok_or(Refusal::NoBatch)?;
+    let (head, first) = pass_batch(img, batches.first).unwrap();
     if head.id != batch_id {
         return Err(Refusal::WrongBatch);
     }
-    let popped = Popped {
-        count: count - 1,
-        rest,
-    };
-    write_queue(img, sections, NewQueue::Popped(popped), target)
+    let rest = Rows { first, count };
+    write_if_room(target, |buf| put_requeued(buf, img, sections, rest))
 }
 
 // Whether the queue has reached one of its limits, or has no place for one batch more.
 fn flushing_at_capacity(queue: Queue, depth: u64, bytes: u64, operations: u64) -> bool
     ensures { result ≡ at_capacity queue depth bytes operations }
 {
-    if depth <= queue.count {
-        return true;
-    }
-    if bytes <= queue.bytes {
-        return true;
-    }
-    if operations <= queue.operations {
-        return true;
-    }
-    16 <= queue.count
+    let waiting = queue.rows.count;
+    depth <= waiting
+        || bytes <= queue.bytes
+        || operations <= queue.operations
+        || MOST_BATCHES <= waiting
 }
 
 // The head of a batch of all that is staged.
@@ -152,25 +144,10 @@ fn reason_of(request: Option<Reason>) -> Reason
     request.unwrap_or(Reason::Threshold)
 }
 
-// Nothing staged, after the batch with this id.
-fn tail_after(id: u64) -> Tail
-    requires { id < edge }
-    ensures { tail_meant result ≡ tail_after_id id }
+// The sum, if it is not above what a staged count may be.
+fn counted(count: u32, more: u64) -> Option<u32>
+    ensures { SomeIff result (past_count (count + more) ≡ false) (count + more) }
 {
-    Tail {
-        next_id: id + 1,
-        bytes: 0,
-        operations: 0,
-        request: None,
-    }
-}
-
-// Whether a staged count would be above what a count may be.
-fn passes_count(bytes: u32, operations: u32, additional_bytes: u64) -> bool
-    ensures { result ≡ (past_count (bytes + additional_bytes) || past_count (operations + 1)) }
-{
-    if 0xFFFF_FFFF - (bytes as u64) < additional_bytes {
-        return true;
-    }
-    0xFFFF_FFFF < (operations as u64) + 1
+    let more = u32::try_from(more).ok()?;
+    count.checked_add(more)
 }

@@ -40,7 +40,8 @@ module _ (img : List ℕ) where
 
   -- "code 0 tombstone or kind + 1; a mask; the fields present, attribute changes; then" by kind
   abbrev pub entry_bytes : EntryDelta → List ℕ
-  entry_bytes (E.Node n) = number_bytes (suc (kind_number (changed_kind (change_meant img n)))) ++ attr_bytes (attr_of n) ++ list_bytes (attr_of n).xattrs ++ change_bytes n
+  entry_bytes (E.Node n) =
+      number_bytes (suc (kind_number (changed_kind (change_meant img n)))) ++ attr_bytes (attr_of n) ++ list_bytes (attr_of n).xattrs ++ change_bytes n
   entry_bytes E.Tombstone = number_bytes 0
 
   -- "parent and entries, or size, or target, or device, or nothing, by kind"

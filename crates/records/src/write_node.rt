@@ -2,7 +2,7 @@
 ghost use Rattle.wire.specs.Put.{Put};
 ghost use Rattle.records.specs.Records.{list_bytes, directory_bytes, change_bytes, entry_bytes, body_bytes, node_bytes};
 
-use deltas::delta::{DirectoryDelta, EntryDelta, NodeDelta, attr_delta};
+use deltas::delta::{DirectoryDelta, EntryDelta, NodeDelta};
 use image::field::{Inode, Size, Target};
 use nodes::node::{Node, NodeKind};
 use wire::number::put_number;
@@ -11,15 +11,14 @@ use wire::put::put_part;
 use writers::field::{PutField, put_maybe};
 use writers::write_attr::{put_attr_delta, put_inode_meta};
 
-// Writes a record, from its code on.
+// Writes a record, from its code on. For a caller of this crate: the calls write what changes, and copy the rest.
 pub fn put_entry_delta(buf: &mut [u8], at: usize, img: &[u8], delta: EntryDelta) -> usize
     ensures { Put buf.old at (entry_bytes img.now delta) result buf.new }
 {
     match delta {
         EntryDelta::Node(node) => {
-            let file_type = node.file_type();
-            let start = put_number(buf, at, file_type.number() + 1);
-            let attr = attr_delta(node);
+            let start = put_number(buf, at, node.file_type().code());
+            let attr = node.attr_delta();
             let list = put_attr_delta(buf, start, attr);
             let change = put_list_if(buf, list, img, attr.xattrs);
             put_change(buf, change, img, node)
@@ -28,7 +27,8 @@ pub fn put_entry_delta(buf: &mut [u8], at: usize, img: &[u8], delta: EntryDelta)
     }
 }
 
-// Copies a list, if it is there. No `PutField`: it is copied as it stands, whether it is a list or not.
+// Copies the bytes of a list, if it is there. No `PutField`: its clause says that a list is written, and nothing
+// here says that these bytes are one.
 pub fn put_list_if(buf: &mut [u8], at: usize, img: &[u8], option: Option<Part>) -> usize
     ensures { Put buf.old at (list_bytes img.now option) result buf.new }
 {
@@ -46,10 +46,10 @@ fn put_change(buf: &mut [u8], at: usize, img: &[u8], delta: NodeDelta) -> usize
         NodeDelta::Directory(directory) => put_directory(buf, at, img, directory),
         NodeDelta::File(file) => put_maybe::<Size>(buf, at, img, file.size),
         NodeDelta::Symlink(symlink) => put_maybe::<Target>(buf, at, img, symlink.target),
-        NodeDelta::Fifo(special) => put_number(buf, at, special.rdev as u64),
-        NodeDelta::CharDevice(special) => put_number(buf, at, special.rdev as u64),
-        NodeDelta::BlockDevice(special) => put_number(buf, at, special.rdev as u64),
-        NodeDelta::Socket(special) => put_number(buf, at, special.rdev as u64),
+        NodeDelta::Fifo(special)
+        | NodeDelta::CharDevice(special)
+        | NodeDelta::BlockDevice(special)
+        | NodeDelta::Socket(special) => put_number(buf, at, special.rdev as u64),
     }
 }
 
@@ -62,12 +62,11 @@ fn put_directory(buf: &mut [u8], at: usize, img: &[u8], directory: DirectoryDelt
     put_part(buf, names, img, directory.removed)
 }
 
-// Writes a node of the base, from its kind on.
+// Writes a node of the base, from its kind on. For a caller of this crate, as `put_entry_delta`.
 pub fn put_node(buf: &mut [u8], at: usize, img: &[u8], node: Node) -> usize
     ensures { Put buf.old at (node_bytes img.now node) result buf.new }
 {
-    let file_type = node.kind.file_type();
-    let start = put_number(buf, at, file_type.number());
+    let start = put_number(buf, at, node.kind.file_type().number());
     let list = put_inode_meta(buf, start, node.meta);
     let body = put_part(buf, list, img, node.meta.xattrs);
     put_body(buf, body, img, node.kind)
@@ -84,9 +83,9 @@ pub fn put_body(buf: &mut [u8], at: usize, img: &[u8], kind: NodeKind) -> usize
         }
         NodeKind::File { size } => put_number(buf, at, size),
         NodeKind::Symlink { target } => Target::put(buf, at, img, target),
-        NodeKind::CharDevice { rdev } => put_number(buf, at, rdev as u64),
-        NodeKind::BlockDevice { rdev } => put_number(buf, at, rdev as u64),
-        NodeKind::Fifo => at,
-        NodeKind::Socket => at,
+        NodeKind::CharDevice { rdev } | NodeKind::BlockDevice { rdev } => {
+            put_number(buf, at, rdev as u64)
+        }
+        NodeKind::Fifo | NodeKind::Socket => at,
     }
 }

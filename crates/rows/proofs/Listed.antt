@@ -33,7 +33,7 @@ use Rattle.rows.specs.Listings.{rows_in}
 use Rattle.rules.specs.Queue.{is_directory}
 use Rattle.rows.specs.Plans.{entry_of, is_listed, list_call, room_for, plan_rows, plan_entries, PlansRows, Plans, Fills, Filled}
 use Rattle.rows.specs.declared.listing.Entry.{Entry}
-use Rattle.rows.specs.declared.listing.Plan.{Plan}
+use Rattle.rows.specs.declared.plan.Plan.{Plan}
 use Rattle.gather.specs.declared.gather.Listing.{Listing}
 use Rattle.gather.specs.declared.gather.Listing.TheVariants as L
 use Rattle.stack.proofs.Opening.{opened-refused, opened-store}

@@ -1,6 +1,6 @@
 -- What a listing answers, and that its rows are filled one after the other.
 -- Assumes nothing.
-use Rattle.std.specs.Prelude.{Ok, Err, None, Option, Some, IsSome}
+use Rattle.std.specs.Prelude.{Result, Ok, Err, None, Option, Some, IsSome}
 use mathlib.Core.Path.{◌≡◌, refl, sym, ap, ◌∙◌}
 use mathlib.Core.Bool.{Bool, true, false, cond}
 use mathlib.Core.List.{List, [], ◌∷◌, ◌++◌, map, append_assoc}
@@ -17,11 +17,13 @@ use Rattle.merge.specs.declared.sources.Sources.{Sources}
 use Rattle.merge.specs.declared.merge.Row.{Row as GivenRow}
 use Rattle.gather.specs.Gathers.{Gathers}
 use Rattle.gather.specs.declared.gather.Listing.{Listing}
+use Rattle.std.specs.Option.{ok_or}
+use Rattle.survey.specs.declared.refusal.Refusal.{Refusal}
 use Rattle.survey.specs.declared.refusal.Refusal.TheVariants.{NoRoom}
 use Rattle.rows.specs.Listings.{rows_in}
-use Rattle.rows.specs.Plans.{entry_of, plan_rows, Fits, PlansRows, plan_entries}
+use Rattle.rows.specs.Plans.{entry_of, plan_rows, PlansRows, plan_entries}
 use Rattle.rows.specs.declared.listing.Entry.{Entry}
-use Rattle.rows.specs.declared.listing.Plan.{Plan}
+use Rattle.rows.specs.declared.plan.Plan.{Plan}
 use Rattle.rows.proofs.Decide.{gathered-rows}
 
 -- ---- room for the rows
@@ -40,17 +42,29 @@ counted-many room count = go (ltb room count) refl
     go true h e = h
     go false h e = absurd (let z : ◌≡◌ {A = ℕ} 0 1 = cc in omega arith)
 
-module _ {s : Stack} (l : Listing) {all : Sources} (g : Gathers s l None all) {room : ℕ} {c : Option ℕ}
-    (k : c ≡ count_of (length (rows_decided all)) room) where
-  pub planned : {n : ℕ} → c ≡ Some n → PlansRows (rows_in l s) room (Ok (record { all = all; count = n }))
-  planned {n} e =
-      let rows = rows_decided all in
-      let z = counted-rows room (length rows) n (sym k ∙ e) in
-      let low = ltb-false room (length rows) z.0 in
-      rw (← gathered-rows l g) (record { answers = rw z.0; fits = record { count = z.1; small = omega (arith, low, z.1) } })
+given-some : (o : Option ℕ) (e : Refusal) {n : ℕ} → ok_or o e ≡ Ok n → o ≡ Some n
+given-some None e h = cc
+given-some (Some x) e h = cc
 
-  pub planned-few : c ≡ None → PlansRows (rows_in l s) room (Err NoRoom)
-  planned-few e = rw (← gathered-rows l g) (record { answers = rw (counted-many room (length (rows_decided all)) (sym k ∙ e)); fits = tt })
+given-none : (o : Option ℕ) (e : Refusal) {f : Refusal} → ok_or o e ≡ Err f → (o ≡ None) × (f ≡ e)
+given-none None e h = (refl, cc)
+given-none (Some x) e h = cc
+
+module _ {s : Stack} (l : Listing) {all : Sources} (g : Gathers s l None all) (room : ℕ) {c : Option ℕ}
+    (k : c ≡ count_of (length (rows_decided all)) room) {made : Result ℕ Refusal} (m : made ≡ ok_or c NoRoom) where
+  counted : {n : ℕ} → made ≡ Ok n → (ltb room (length (rows_decided all)) ≡ false) × (length (rows_decided all) ≡ n)
+  counted {n} e = counted-rows room (length (rows_decided all)) n (sym k ∙ given-some c NoRoom (sym m ∙ e))
+
+  pub planned : {n : ℕ} → made ≡ Ok n → (p : Plan) → p.all ≡ all → p.count ≡ n → PlansRows (rows_in l s) room (Ok p)
+  planned {n} e p d x =
+      let z = counted e in
+      let low = ltb-false room (length (rows_decided all)) z.0 in
+      rw (← gathered-rows l g) (record { answers = rw (d, z.0); fits = omega (arith, low, z.1, x) })
+
+  pub planned-few : {f : Refusal} → made ≡ Err f → {r : Result Plan Refusal} → r ≡ Err f → PlansRows (rows_in l s) room r
+  planned-few e d =
+      let z = given-none c NoRoom (sym m ∙ e) in
+      rw (d, z.1, ← gathered-rows l g) (record { answers = rw (counted-many room (length (rows_decided all)) (sym k ∙ z.0)); fits = tt })
 
 -- ---- rows filled from the front: so far i of them
 
@@ -94,5 +108,5 @@ module _ {es : List Entry} {i : ℕ} {all rest : Sources} (g : Going es i all) (
 
 -- ---- all rows
 
-pub target-length : {room : ℕ} {p : Plan} → Fits room p → length (plan_entries p) ≡ p.count
-target-length {p = p} h = length-map (plan_rows p) entry_of ∙ h.count
+pub target-length : (p : Plan) → length (plan_entries p) ≡ p.count
+target-length p = length-map (plan_rows p) entry_of ∙ p.counted

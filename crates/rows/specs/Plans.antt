@@ -13,7 +13,7 @@ use Rattle.merge.specs.Merges.{rows_decided}
 use Rattle.gather.specs.declared.gather.Listing.{Listing}
 use Rattle.gather.specs.declared.gather.Listing.TheVariants as L
 use Rattle.rows.specs.declared.listing.Entry.{Entry}
-use Rattle.rows.specs.declared.listing.Plan.{Plan}
+use Rattle.rows.specs.declared.plan.Plan.{Plan}
 
 -- "start of the name in the image, length, inode"
 abbrev pub entry_of : Row → Entry
@@ -45,10 +45,9 @@ plan_rows p = rows_decided p.all
 abbrev pub plan_entries : Plan → List Entry
 plan_entries p = map entry_of (plan_rows p)
 
--- it has as many rows as it says, and there is room for them
-pub record Fits (room : ℕ) (p : Plan) : Type 0 where
-  pub count : length (plan_rows p) ≡ p.count
-  pub small : p.count ≤ room
+-- there is room for them
+abbrev pub Fits : ℕ → Plan → Type 0
+Fits room p = p.count ≤ room
 
 -- these are its rows, if there is room for them
 pub record PlansRows (l : List Row) (room : ℕ) (r : Result Plan Refusal) : Type 0 where

@@ -6,12 +6,12 @@ ghost use Rattle.rules.specs.Initial.{usual};
 ghost use Rattle.rules.specs.ReadCalls.{list_directory, list_xattrs};
 ghost use Rattle.layers.specs.Attrs.{attr_if};
 
+use crate::plan::Plan;
 use attrs::node::FileAttr;
 use gather::gather::{Listing, gather_sources};
 use image::kind::FileType;
 use layers::attr::shown_attr;
 use merge::merge::count_rows;
-use merge::sources::Sources;
 use stack::open::open_image;
 use stack::stack::Stack;
 use survey::refusal::Refusal;
@@ -25,25 +25,17 @@ pub struct Entry {
     pub inode: u64,
 }
 
-// The rows of a listing, and how many they are.
-#[derive(Clone, Copy)]
-pub struct Plan<'a> {
-    pub all: Sources<'a>,
-    pub count: usize,
-}
-
 // The rows of a stack, if there is room for them.
 fn plan_rows(stack: Stack, listing: Listing, room: usize) -> Result<Plan, Refusal>
     ensures { PlansRows (rows_in listing stack.entry) room result }
 {
     let all = gather_sources(stack, listing, None);
-    match count_rows(all, room) {
-        Some(count) => Ok(Plan { all, count }),
-        None => Err(Refusal::NoRoom),
-    }
+    let count = count_rows(all, room).ok_or(Refusal::NoRoom)?;
+    Ok(Plan { all, count })
 }
 
-// The one function over the rows lent: fills the first of them, and answers how many.
+// The one function over the rows lent: fills the first of them, and answers how many. No `zip`: its loop's invariant would speak of the rows as
+// single borrows, and the promise of the slice. No `From` for an `Entry`: it is made in this one place.
 fn fill_rows(plan: Plan, rows: &mut [Entry]) -> usize
     requires { Fits (length rows.old) plan }
     ensures { Fills (plan_entries plan.entry) rows.old result rows.new }
@@ -64,13 +56,10 @@ fn fill_rows(plan: Plan, rows: &mut [Entry]) -> usize
 fn is_listed(listing: Listing, attr: Option<FileAttr>) -> bool
     ensures { result ≡ is_listed listing (attr_if attr) }
 {
-    let Some(shown) = attr else {
-        return false;
-    };
-    match listing {
+    attr.is_some_and(|shown| match listing {
         Listing::Entries => shown.file_type == FileType::Directory,
         Listing::Attributes => true,
-    }
+    })
 }
 
 // What a listing answers, and its rows.
@@ -90,7 +79,7 @@ fn plan_listing(
     Ok(None)
 }
 
-// The rows lent, filled with those of the listing.
+// The rows lent, filled with those of the listing. No `map`: tried; a closure that holds the lent rows isn't proved alone.
 #[tactic(auto, using(crate::proofs::Listed::fills))]
 fn list(
     img: &[u8],

@@ -177,7 +177,7 @@ unfolding verdict_of
 p1-fine = rw p1
 
 p2 : read_image cut-empty ≡ fault Ended
-p2 = cut-image cut-empty (0 ∷ []) empty_store p1 (λ e. let z : ◌≡◌ {A = ℕ} 0 1 = cc in omega arith)
+p2 = cut-image cut-empty (0 ∷ []) empty_store p1 (λ e. cc)
 
 p2-refused : refusal_of (verdict_of cut-empty) ≡ Some 2
 unfolding verdict_of

@@ -22,7 +22,7 @@ T_true : (b : Bool) → T b → b ≡ true
 T_true true t = refl
 T_true false t = absurd t
 
-same_kind_lem : (k j : Kind) → k ≡ j → same_kind k j ≡ true
+pub same_kind_lem : (k j : Kind) → k ≡ j → same_kind k j ≡ true
 unfolding same_kind
 same_kind_lem k j e = rw e (T_true _ (eqb_refl (kind_number j)))
 

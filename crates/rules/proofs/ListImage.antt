@@ -1,8 +1,9 @@
 -- After any list of calls, refused ones included, the store has an image.
 use Rattle.std.specs.Prelude.{None, Option, Some}
+use Rattle.std.proofs.lemmas.Bool.{and_parts}
 use mathlib.Core.Path.{◌≡◌, refl}
 use mathlib.Core.List.{List, [], ◌∷◌}
-use mathlib.Core.Bool.{Bool, true, false, cond, ◌&&◌}
+use mathlib.Core.Bool.{Bool, true, false, cond}
 use Prim.Native.Nat.{ℕ}
 use lib.Dec.{leb}
 use lib.ListN.{length}
@@ -25,11 +26,7 @@ use Rattle.rules.proofs.ResultImage.{result_fits}
 
 -- document 01's test of 5 is one
 pub lent_fits : (target : ℕ) (c : Call) → FitsCall c → FitsMade (lent target c)
-lent_fits target c h = record { call = h; room = λ s e. leb-true (length (write_image s)) 65536 (go (leb (length (write_image s)) 65536) (leb (length (write_image s)) target) e) }
-  where
-    go : (a b : Bool) → (a && b) ≡ true → a ≡ true
-    go true b e = refl
-    go false b e = e
+lent_fits target c h = record { call = h; room = λ s e. leb-true (length (write_image s)) 65536 (and_parts (leb (length (write_image s)) 65536) (leb (length (write_image s)) target) e).0 }
 
 module _ (initial : Initial) (ok : FitsInitial initial) where
   next_fits : (m : Made) (s : Store) → FitsMade m → FitsStore s → FitsStore (next initial m s)

@@ -1,18 +1,19 @@
 -- Where the lists of a node and of a delta stand in the image that they are read in.
 use Rattle.std.specs.Prelude.{Option, Some}
-use mathlib.Core.Path.{◌≡◌, refl, sym, ap, ◌∙◌}
+use mathlib.Core.Path.{◌≡◌, sym, ap, ◌∙◌}
 use mathlib.Core.List.{List, ◌++◌, append_assoc}
 use Prim.Native.Nat.{ℕ, ◌+◌, ◌-◌, ◌≤◌}
 use native.Mathlib.Omega.{arith}
 use lib.ListN.{length, drop, length-append, length-drop}
 use lib.Seq.{drop-drop, drop-append_seam}
 use Rattle.wire.specs.Parse.{got}
-use Rattle.wire.specs.Number.{number_bytes, groups}
+use Rattle.wire.specs.Number.{number_bytes}
 use Rattle.wire.specs.Codec.{Codec, OneForm}
 use Rattle.wire.specs.Combinators.{opt_write}
 use Rattle.std.specs.Prelude.{Ok}
 use Rattle.wire.specs.Reading.{Reads}
-use Rattle.image.specs.Meaning.{Kind, Entries, Names, Meta, Node, Changes, Fields, Delta, directory, file, symlink, special, pipe, character, block, socket, delta, kind_of, changed_kind}
+use Rattle.image.proofs.Numbered.{kind-length, code-length}
+use Rattle.image.specs.Meaning.{Entries, Names, Meta, Node, Changes, Fields, Delta, directory, delta, kind_of, changed_kind}
 use Rattle.image.specs.Masks.{maybe}
 use Rattle.image.specs.FieldLayout.{inode, word, moment, entries, attributes}
 use Rattle.image.specs.KindLayout.{kind, code}
@@ -42,26 +43,6 @@ module _ (img : List ℕ) where
 
 -- ---- a node and a delta
 
-kind-byte : (k : Kind) → length (kind.write k) ≡ 1
-unfolding kind number_bytes groups
-kind-byte directory = refl
-kind-byte file = refl
-kind-byte symlink = refl
-kind-byte (special pipe) = refl
-kind-byte (special character) = refl
-kind-byte (special block) = refl
-kind-byte (special socket) = refl
-
-code-byte : (k : Kind) → length (code.write (Some k)) ≡ 1
-unfolding code number_bytes groups
-code-byte directory = refl
-code-byte file = refl
-code-byte symlink = refl
-code-byte (special pipe) = refl
-code-byte (special character) = refl
-code-byte (special block) = refl
-code-byte (special socket) = refl
-
 -- bytes that end with w
 abbrev EndsWith : List ℕ → List ℕ → Type 0
 EndsWith w s = (front : List ℕ) × (s ≡ front ++ w)
@@ -90,7 +71,7 @@ module _ (img : List ℕ) (p : ℕ) where
       let k = kind.write (kind_of n.body) in
       let t = meta.write n.meta ++ ((body_part (kind_of n.body)).write (body_part_of n.body) ++ r) in
       let d : drop p img ≡ k ++ t = simp append_assoc at (node-one.forth (drop p img) n r e).0 in
-      rw (kind-byte (kind_of n.body)) at (on img p k t d)
+      rw (kind-length (kind_of n.body)) at (on img p k t d)
 
   fields_at : (d : Delta) (r : List ℕ) → layer_record.read (drop p img) ≡ got (delta d) r
       → drop (p + 1) img ≡ fields.write d.fields ++ ((change_part (changed_kind d.change)).write (change_part_of d.change) ++ r)
@@ -99,7 +80,7 @@ module _ (img : List ℕ) (p : ℕ) where
       let k = code.write (Some (changed_kind d.change)) in
       let t = fields.write d.fields ++ ((change_part (changed_kind d.change)).write (change_part_of d.change) ++ r) in
       let g : drop p img ≡ k ++ t = simp append_assoc at (layer_record-one.forth (drop p img) (delta d) r e).0 in
-      rw (code-byte (changed_kind d.change)) at (on img p k t g)
+      rw (code-length (Some (changed_kind d.change))) at (on img p k t g)
 
   -- what ends at a place, less its own length
   ends_at : {w s : List ℕ} (q : ℕ) (t : List ℕ) → EndsWith w s → drop q img ≡ s ++ t → drop (q + length s - length w) img ≡ w ++ t

@@ -114,7 +114,7 @@ module _ (initial : Initial) where
 
     -- with no live record, over a directory
     anew : (n : Option Node) → base_type n ≡ Some directory → Acts initial (on_directory D) (map_if (change_node N)) None n
-    anew None e = absurd (let z : ◌≡◌ {A = ℕ} 0 1 = cc in omega arith)
+    anew None e = cc
     anew (Some n) e =
         let k : Kind.directory ≡ kind_of n.body = cc in
         let act = onto no_fields None (empty by_bytes) (empty by_bytes) (Some n) (k, none-added (empty by_bytes)) in

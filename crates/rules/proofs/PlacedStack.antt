@@ -69,9 +69,7 @@ module _ (img : List ℕ) (i : ℕ) {s : Store} (e : read_image img ≡ got s []
   abbrev surveyed : Survey
   surveyed = record {
     stack = record { base = node_place img i; deltas = record_places img i; count = length (record_places img i) };
-    batches = after_base;
-    live = after_batches;
-    tail = length img - length parts.r3;
+    sections = record { batches = after_base; live = after_batches; tail = length img - length parts.r3 };
     end = length img - length {A = ℕ} [];
   }
 

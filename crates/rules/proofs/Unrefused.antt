@@ -1,5 +1,6 @@
 -- What a call that is not refused is known to be: each test of its refusals says no.
 use Rattle.std.specs.Prelude.{None, Some}
+use Rattle.std.proofs.lemmas.Bool.{or_parts}
 use mathlib.Core.Path.{◌≡◌, refl}
 use mathlib.Core.List.{List, [], ◌∷◌}
 use mathlib.Core.Bool.{Bool, true, false, cond, ◌||◌, ◌&&◌, not}
@@ -19,26 +20,19 @@ use Rattle.rules.specs.Calls.{Limits, Call}
 use Rattle.rules.specs.Arguments.{FitsSeconds}
 use Rattle.rules.specs.Refusals.{bad_time, is_empty, is_full, sum_of, past_count, last_id, refusal}
 
-never_true : {A : Type 0} → true ≡ false → A
-never_true e = absurd (let z : ◌≡◌ {A = ℕ} 0 1 = cc in omega arith)
-
 -- none of the tests holds
 quiet : (ts : List (ℕ × Bool)) → first_of ts ≡ None → Every (λ t. t.1 ≡ false) ts
 quiet [] e = tt
 quiet (t ∷ ts) e = go t.1 refl e (quiet ts)
   where
     go : (b : Bool) → t.1 ≡ b → cond b (Some t.0) (first_of ts) ≡ None → (first_of ts ≡ None → Every (λ t. t.1 ≡ false) ts) → Every (λ t. t.1 ≡ false) (t ∷ ts)
-    go true i e more = absurd (let z : ◌≡◌ {A = ℕ} 0 1 = cc in omega arith)
+    go true i e more = cc
     go false i e more = (i, more e)
-
-neither : (a b : Bool) → (a || b) ≡ false → (a ≡ false) × (b ≡ false)
-neither true b e = never_true e
-neither false b e = (refl, e)
 
 both : (a b : Bool) → not (a && b) ≡ false → (a ≡ true) × (b ≡ true)
 both true true e = (refl, refl)
-both true false e = never_true e
-both false b e = never_true e
+both true false e = cc
+both false b e = cc
 
 good-name : (name : Text) → Bytes name → bad_name name ≡ false → FitsName name
 good-name name h e =
@@ -59,15 +53,15 @@ pub freeze-fits : (limits : Limits) (t : Time) (s : Store) → FitsSeconds t →
 freeze-fits limits t s f e h =
     let q = quiet ((4, bad_time t) ∷ (6, is_full limits s.batches) ∷ (7, is_empty s.live.rows) ∷ (10, eqb s.next last_id) ∷ []) e in
     let n : s.next ≡ last_id → ⊥ = eqb-false s.next last_id q.1.1.1.0 in
-    let full = neither (leb limits.batches (length s.batches) || leb limits.bytes (sum_of (λ b. b.bytes) s.batches))
+    let full = or_parts (leb limits.batches (length s.batches) || leb limits.bytes (sum_of (λ b. b.bytes) s.batches))
     (leb limits.operations (sum_of (λ b. b.operations) s.batches) || leb 16 (length s.batches)) q.1.0 in
-    let most = neither (leb limits.operations (sum_of (λ b. b.operations) s.batches)) (leb 16 (length s.batches)) full.1 in
+    let most = or_parts (leb limits.operations (sum_of (λ b. b.operations) s.batches)) (leb 16 (length s.batches)) full.1 in
     (good-time t f q.0, leb-false 16 (length s.batches) most.1, omega arith)
 
 pub note-fits : (n : ℕ) (s : Store) → refusal (Call.note n) s ≡ None → (s.bytes + n < 2 ^ 32) × (s.operations + 1 < 2 ^ 32)
 note-fits n s e =
     let q = quiet ((10, past_count (s.bytes + n) || past_count (s.operations + 1)) ∷ []) e in
-    let p = neither (past_count (s.bytes + n)) (past_count (s.operations + 1)) q.0 in
+    let p = or_parts (past_count (s.bytes + n)) (past_count (s.operations + 1)) q.0 in
     (omega (arith, ltb-false 4294967295 (s.bytes + n) p.0), omega (arith, ltb-false 4294967295 (s.operations + 1) p.1))
 
 pub request-fits : (r : ℕ) (s : Store) → refusal (Call.request r) s ≡ None → r ≤ 5

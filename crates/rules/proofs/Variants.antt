@@ -161,7 +161,7 @@ later-popped id img target new t d f =
   where
     go : (r : Option ℕ) (s u : Store) → unless r (set_batches [] s) ≡ answer u → u ≡ set_batches [] s
     go None s u e = cc
-    go (Some n) s u e = absurd (let z : ◌≡◌ {A = ℕ} 0 1 = cc in omega arith)
+    go (Some n) s u e = cc
 
 -- ---- none meets demand 3
 

@@ -1,8 +1,9 @@
 -- What a changing call answers, where it is not refused: the image of the new store, which the target has room for.
 use Rattle.std.specs.Prelude.{None, Option, Some}
+use Rattle.std.proofs.lemmas.Bool.{and_parts}
 use mathlib.Core.Path.{◌≡◌, refl, sym, ap, ◌∙◌}
 use mathlib.Core.List.{List, []}
-use mathlib.Core.Bool.{Bool, true, false, cond, ◌&&◌}
+use mathlib.Core.Bool.{Bool, true, false, cond}
 use Prim.Native.Nat.{ℕ, ◌≤◌}
 use native.Mathlib.Omega.{arith}
 use lib.Dec.{leb, ltb}
@@ -27,11 +28,7 @@ use Rattle.rules.proofs.ResultImage.{result-image, snapshot-image}
 
 -- a refusal is no answer
 not-both : {A B : Type 0} {n : ℕ} {a : A} → ◌≡◌ {A = Answer A} (refused n) (answer a) → B
-not-both e = absurd (let z : ◌≡◌ {A = ℕ} 0 1 = cc in omega arith)
-
-both : (a b : Bool) → (a && b) ≡ true → (a ≡ true) × (b ≡ true)
-both true b e = (refl, e)
-both false b e = absurd (let z : ◌≡◌ {A = ℕ} 0 1 = cc in omega arith)
+not-both e = cc
 
 -- the store that the image holds, and the image of its new store
 pub record Makes (f : Store → Answer Store) (img : List ℕ) (target : ℕ) (new : List ℕ) : Type 0 where
@@ -52,7 +49,7 @@ module _ (f : Store → Answer Store) (img : List ℕ) (target : ℕ) where
       fits : (s u : Store) (r : List ℕ) → read_image img ≡ got s r → f s ≡ answer u → (b : Bool) → has_room target u ≡ b
           → map_answer write_image (cond b (answer u) (refused 5)) ≡ answer new → Makes f img target new
       fits s u r e g true h d =
-          let l = both (leb (length (write_image u)) 65536) (leb (length (write_image u)) target) h in
+          let l = and_parts (leb (length (write_image u)) 65536) (leb (length (write_image u)) target) h in
           record { old = s; rest = r; holds = e; store = u; given = g; image = cc; room = leb-true (length (write_image u)) 65536 l.0; in_target = leb-true (length (write_image u)) target l.1 }
       fits s u r e g false h d = not-both d
 

@@ -1,15 +1,9 @@
 // Writing answers to standard output. What cannot be written is answered as an error.
-use image::kind::FileType;
 use std::io;
 use survey::refusal::Refusal;
-use wire::time::Time;
 
 pub fn text(rt: &impl Print, words: &[u8]) -> io::Result<()> {
     rt.write_all(words)
-}
-
-pub fn number(rt: &impl Print, value: u64) -> io::Result<()> {
-    print!(rt; "{value}")
 }
 
 pub fn hex(rt: &impl Print, bytes: &[u8]) -> io::Result<()> {
@@ -26,32 +20,14 @@ pub fn written(rt: &impl Print, length: usize, bytes: &[u8]) -> io::Result<()> {
 }
 
 pub fn refused(rt: &impl Print, refusal: Refusal) -> io::Result<()> {
-    print!(rt; " = refused {}", refusal.number())
-}
-
-// A number behind others.
-pub fn next(rt: &impl Print, value: u64) -> io::Result<()> {
-    print!(rt; " {value}")
-}
-
-// A time behind others.
-pub fn time(rt: &impl Print, moment: Time) -> io::Result<()> {
-    print!(rt; " {moment}")
+    print!(rt; " = {refusal}")
 }
 
 // Bytes as a word of the list has them.
 pub fn word(rt: &impl Print, bytes: &[u8]) -> io::Result<()> {
-    if bytes.len() == 0 {
+    if bytes.is_empty() {
         text(rt, b"-")
     } else {
         hex(rt, bytes)
     }
-}
-
-pub fn octal(rt: &impl Print, value: u32) -> io::Result<()> {
-    print!(rt; "{value:o}")
-}
-
-pub fn letter(rt: &impl Print, kind: FileType) -> io::Result<()> {
-    text(rt, &[kind.letter()])
 }

@@ -4,10 +4,7 @@ use Rattle.std.specs.Prelude.{Result, Ok, Err, None, Option, Some}
 use mathlib.Core.Path.{◌≡◌, refl, sym, ◌∙◌}
 use mathlib.Core.Bool.{Bool, true, false}
 use mathlib.Core.List.{List, [], ◌∷◌}
-use Prim.Native.Nat.{ℕ, ◌≤◌, ◌<◌}
-use lib.Dec.{ltb}
-use lib.ListN.{length}
-use borrow.Author.Tests.{le-leb, lt-leb, ltb-true, ltb-false}
+use Prim.Native.Nat.{ℕ}
 use Rattle.image.specs.Meaning.{Text, Store}
 use Rattle.survey.specs.Verdict.{number_of, verdict_of}
 use Rattle.survey.specs.declared.refusal.Refusal.{Refusal}
@@ -19,21 +16,6 @@ use Rattle.rules.proofs.Asked.{over-fine, verdict-fine, verdict-refused}
 use Rattle.stack.specs.InStack.{Opens}
 use Rattle.stack.specs.declared.stack.Stack.{Stack}
 use Rattle.stack.specs.Named.{named_verdict, OpensNamed}
-
--- ---- a bad name
-
-module _ (name : Text) where
-  pub empty-bad : length name < 1 → true ≡ bad_name name
-  empty-bad h = rw (lt-leb 1 (length name) h)
-
-  pub long-bad : 1 ≤ length name → ltb 255 (length name) ≡ bad_name name
-  long-bad h = go (ltb 255 (length name)) refl
-    where
-      go : (b : Bool) → ltb 255 (length name) ≡ b → b ≡ bad_name name
-      go true e = rw (le-leb 1 (length name) h, lt-leb (length name) 255 (ltb-true 255 (length name) e))
-      go false e = rw (le-leb 1 (length name) h, le-leb (length name) 255 (ltb-false 255 (length name) e))
-
--- ---- the calls
 
 module _ {img : List ℕ} {i : ℕ} {name : Text} {o : Result Stack Refusal} (w : OpensNamed img i name o) where
   pub refused-by : {A : Type 0} (g : Store → A) {r : Refusal} → o ≡ Err r

@@ -1,7 +1,8 @@
 -- The stack of an inode, as places in the image.
 use Rattle.image.specs.declared.kind.FileType.{FileType}
-use Rattle.std.specs.Prelude.{◌≡◌, List, [], ◌∷◌, ℕ, ◌≤◌, length, take, drop, Ok, None, Option, Some}
-use Rattle.std.specs.Coded.{×_prop, le_prop}
+use Rattle.std.specs.Prelude.{IfSome, ◌≡◌, List, [], ℕ, ◌≤◌, length, take, drop, Ok, None, Option, Some}
+use Rattle.std.specs.List.{AllByRecursion, AllByRecursion-prop}
+use Rattle.std.specs.Coded.{le_prop}
 use Rattle.std.proofs.Math.Nat.{ℕ_set}
 use Rattle.wire.specs.Parse.{Parsed, fault, got}
 use Rattle.survey.specs.declared.batch.InodeLayerStack.{InodeLayerStack}
@@ -25,12 +26,10 @@ IsRead (got a r) = Unit {0}
 
 -- and at each place
 abbrev pub AllRead : List ℕ → List ℕ → Type 0
-AllRead img [] = Unit {0}
-AllRead img (p ∷ ps) = IsRead (layer_record.read (drop p img)) × AllRead img ps
+AllRead img ps = AllByRecursion (λ (p : ℕ). IsRead (layer_record.read (drop p img))) ps
 
 abbrev pub NodeRead : List ℕ → Option ℕ → Type 0
-NodeRead img None = Unit {0}
-NodeRead img (Some p) = IsRead (node.read (drop p img))
+NodeRead img o = IfSome o (λ p. IsRead (node.read (drop p img)))
 
 -- the places of a stack hold a node and records of the image
 pub record Stacked (img : List ℕ) (s : InodeLayerStack) : Type 0 where
@@ -40,13 +39,12 @@ pub record Stacked (img : List ℕ) (s : InodeLayerStack) : Type 0 where
   pub wide : length s.deltas ≡ 17
 
 -- which can be said in one way alone
-is_read-prop : {A : Type 0} (o : Parsed A) → IsProp (IsRead o)
+pub is_read-prop : {A : Type 0} (o : Parsed A) → IsProp (IsRead o)
 is_read-prop (fault f) = hlevel
 is_read-prop (got a r) = hlevel
 
 all_read-prop : (img ps : List ℕ) → IsProp (AllRead img ps)
-all_read-prop img [] = hlevel
-all_read-prop img (p ∷ ps) = ×_prop (is_read-prop (layer_record.read (drop p img))) (all_read-prop img ps)
+all_read-prop img ps = AllByRecursion-prop (λ (p : ℕ). IsRead (layer_record.read (drop p img))) (λ p. is_read-prop (layer_record.read (drop p img))) ps
 
 node_read-prop : (img : List ℕ) (p : Option ℕ) → IsProp (NodeRead img p)
 node_read-prop img None = hlevel

@@ -5,16 +5,14 @@ ghost use Rattle.stack.specs.Named.{OpensNamed};
 
 use crate::open::open_image;
 use crate::stack::Stack;
+use image::field::LAST_NAME;
 use survey::refusal::Refusal;
 
 // A name is from 1 to 255 bytes long.
 pub fn bad_name(name: &[u8]) -> bool
     ensures { result ≡ bad_name name.now }
 {
-    if name.len() < 1 {
-        return true;
-    }
-    255 < name.len()
+    name.is_empty() || LAST_NAME < name.len() as u64
 }
 
 // The image opened for a call that is given a name: refusal 3 comes after 1 and 2.

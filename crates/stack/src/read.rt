@@ -16,7 +16,8 @@ impl Stack<'_> {
         Some(node)
     }
 
-    // One of the records, counted from the lowest. That there are so many is a clause, as at any index.
+    // One of the records, counted from the lowest. That there are so many is a clause, as at any index. No iterator of records: some loops go up,
+    // others down, and some need the number, so that one would be a stack and two numbers again, with laws for both ways.
     pub fn record(self, i: usize) -> EntryDelta
         requires { i < self.places.count }
         ensures { RecordIn self.entry i result }

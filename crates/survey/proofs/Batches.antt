@@ -10,7 +10,6 @@ use lib.ListN.{length, drop}
 use Rattle.wire.specs.declared.fault.Fault.{Fault}
 use Rattle.wire.specs.Parse.{Parsed, got, bind, bind-bind}
 use Rattle.wire.specs.Combinators.{only}
-use Rattle.wire.specs.Number.{number_read}
 use Rattle.wire.specs.Orders.{by_number}
 use Rattle.wire.specs.Lists.{after}
 use Rattle.wire.specs.Reading.{Reads}
@@ -19,6 +18,8 @@ use Rattle.image.specs.FieldLayout.{inode}
 use Rattle.image.specs.RecordLayout.{records}
 use Rattle.image.specs.StoreLayout.{BatchRest, batch_rest}
 use Rattle.image.specs.Places.{Ends, rows_from}
+use Rattle.image.specs.Rows.{ReadsRows, counted}
+use Rattle.image.specs.declared.rows.Rows.{Rows}
 use Rattle.passes.specs.Held.{Finds}
 use Rattle.survey.specs.Gathering.{list_if, deltas_of, head_rest, batch_head, record_place, batch_places}
 use Rattle.survey.specs.Gathering.{Bare, Pushed, Gathers, GathersQueue}
@@ -127,21 +128,21 @@ module _ {img : List ℕ} {sought first n here left : ℕ} {base last : Option �
 
 -- ---- the whole list, its count first
 
-module _ {img : List ℕ} {sought at : ℕ} {base : Option ℕ} {o : Result (ℕ × ℕ) Fault} (h : Reads img (number_read 16) at o) where
+module _ {img : List ℕ} {sought at : ℕ} {base : Option ℕ} {o : Result Rows Fault} (h : ReadsRows img 16 at o) where
   pub queue-stop : {f : Fault} {r : Result (Batches × ℕ) Fault} → o ≡ Err f → r ≡ Err f → GathersQueue img sought at base r
-  queue-stop d e = rw e (record { ends = ends-unchosen (λ n s. rows_from by_number inode batch_rest n None s) h d refl; gathered = tt })
+  queue-stop d e = rw e (record { ends = ends-unchosen (λ n s. rows_from by_number inode batch_rest n None s) h (ap counted d) refl; gathered = tt })
 
-  pub queue-all : {n first : ℕ} {r : Result (Batches × ℕ) Fault} → o ≡ Ok (n, first) → Gathers img sought first n base r → GathersQueue img sought at base r
-  queue-all {n} {first} {r} d g = go r g
+  pub queue-all : {list : Rows} {r : Result (Batches × ℕ) Fault} → o ≡ Ok list → Gathers img sought list.first list.count base r → GathersQueue img sought at base r
+  queue-all {list} {r} d g = go r g
     where
-      go : (r : Result (Batches × ℕ) Fault) → Gathers img sought first n base r → GathersQueue img sought at base r
-      go (Err f) g = record { ends = ends-chosen (λ n s. rows_from by_number inode batch_rest n None s) h d g.ends; gathered = tt }
+      go : (r : Result (Batches × ℕ) Fault) → Gathers img sought list.first list.count base r → GathersQueue img sought at base r
+      go (Err f) g = record { ends = ends-chosen (λ n s. rows_from by_number inode batch_rest n None s) h (ap counted d) g.ends; gathered = tt }
       go (Ok x) g =
           let c = rw d at h in
           let b = g.gathered in
-          let l : n ≤ 16 = number-most h d in
+          let l : list.count ≤ 16 = number-most h (ap counted d) in
           record {
-            ends = ends-chosen (λ n s. rows_from by_number inode batch_rest n None s) h d g.ends;
+            ends = ends-chosen (λ n s. rows_from by_number inode batch_rest n None s) h (ap counted d) g.ends;
             gathered = record {
               last = rw (c.same) b.last;
               places = rw (c.same) b.places;

@@ -217,7 +217,7 @@ module _ {img : List ℕ} {sought : ℕ} {o : Result (Option ℕ × ℕ) Fault} 
         surveys-tail x e = stopped e (after-live x)
 
         pub surveys-all : {c4 : ℕ} {stack : InodeLayerStack} → w ≡ Ok c4 → Pushed queue.stack top stack
-            → Surveyed img sought (record { stack = stack; batches = c1; live = c2; tail = c3; end = c4 })
+            → Surveyed img sought (record { stack = stack; sections = record { batches = c1; live = c2; tail = c3 }; end = c4 })
         surveys-all x p =
             let hb = rw d at b in
             let hg = rw z at g in

@@ -148,7 +148,7 @@ module _ (img : List ℕ) (i : ℕ) where
       (batch_records i (batches_of l))
   unfolding batch_places batches_of
   none-batches s [] e = tt
-  none-batches s (x ∷ l) e = absurd (let z : ◌≡◌ {A = ℕ} 0 1 = cc in omega arith)
+  none-batches s (x ∷ l) e = cc
 
   batches-hold : (n : ℕ) (prev : Option ℕ) (s : List ℕ) {l : List (ℕ × BatchRest)} {r : List ℕ} → Suffix img s → rows_from by_number inode batch_rest n prev s
       ≡ got l r
@@ -213,14 +213,14 @@ survey-holds {img} {i} {r} {s} w e =
     let d = read_whole img e in
     let x = sections img d in
     let b = ends-place w.base x.at_base in
-    let eb : batches.read (drop r.batches img) ≡ got s.batches x.r2 = rw b x.at_batches in
+    let eb : batches.read (drop r.sections.batches img) ≡ got s.batches x.r2 = rw b x.at_batches in
     let l = ends-place w.batches eb in
-    let el : records.read (drop r.live img) ≡ got s.live x.r3 = rw l x.at_live in
+    let el : records.read (drop r.sections.live img) ≡ got s.live x.r3 = rw l x.at_live in
     record {
       node_held = rw w.node (list-holds by_number inode node img i inode-one node-one 0 (omega arith) x.at_base);
       records_held =
           rw w.deltas
-          (hold-last img layer_record.read (queue_places img i r.batches) (batch_records i s.batches) (place_in by_number inode layer_record img i r.live)
-          (get by_number i s.live) (queue-holds img i r.batches w.base.within eb)
-          (list-holds by_number inode layer_record img i inode-one layer_record-one r.live w.batches.within el));
+          (hold-last img layer_record.read (queue_places img i r.sections.batches) (batch_records i s.batches) (place_in by_number inode layer_record img i r.sections.live)
+          (get by_number i s.live) (queue-holds img i r.sections.batches w.base.within eb)
+          (list-holds by_number inode layer_record img i inode-one layer_record-one r.sections.live w.batches.within el));
     }

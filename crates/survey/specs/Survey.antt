@@ -22,11 +22,11 @@ tail_after last = only (after by_number last) inode then word then word then num
 -- the sections end where the next begin, and the store where the image is read to
 pub record Surveys (img : List ℕ) (sought : ℕ) (r : Survey) : Type 0 where
   pub ends : Ends img store.read 0 (Ok r.end)
-  pub base : Ends img base.read 0 (Ok r.batches)
-  pub batches : Ends img batches.read r.batches (Ok r.live)
-  pub live : Ends img records.read r.live (Ok r.tail)
+  pub base : Ends img base.read 0 (Ok r.sections.batches)
+  pub batches : Ends img batches.read r.sections.batches (Ok r.sections.live)
+  pub live : Ends img records.read r.sections.live (Ok r.sections.tail)
   pub node : r.stack.base ≡ place_in by_number inode node img sought 0
-  pub deltas : deltas_of r.stack ≡ queue_places img sought r.batches ++ list_if (place_in by_number inode layer_record img sought r.live)
+  pub deltas : deltas_of r.stack ≡ queue_places img sought r.sections.batches ++ list_if (place_in by_number inode layer_record img sought r.sections.live)
 
 -- the survey of the one pass: its stack has room for 16 batches and live
 pub record Surveyed (img : List ℕ) (sought : ℕ) (r : Survey) : Type 0 where

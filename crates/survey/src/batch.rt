@@ -5,16 +5,24 @@ ghost use Rattle.survey.specs.Gathering.{head_rest, Bare, Pushed, Gathers, Gathe
 
 use crate::reason::read_reason;
 use image::field::{Field, Moment, Word};
+use image::rows::{Rows, read_rows};
 use passes::inode::{Held, find_inode, inode_after};
 use wire::fault::Fault;
-use wire::number::read_number;
+
+// The most batches that may wait.
+pub const MOST_BATCHES: u64 = 16;
+
+// The most layers: the batches, and live.
+pub const MOST_LAYERS: usize = 17;
 
 // An inode's node in the base, and its records in the layers that have one: `count` places, the front batch's first.
-// No `Vec`: the project has no heap; 17 places are all that an inode can have.
+// No `Vec`: the project has no heap; an inode has no more places than there are layers. No `ArrayVec` either: each read takes a stack by value, and
+// that is not `Copy`. Its bounds are said where it grows, and are no facts of the type: the theorem also speaks of stacks that no code makes
+// (rules/proofs/PlacedStack).
 #[derive(Clone, Copy)]
 pub struct InodeLayerStack {
     pub base: Option<usize>,
-    pub deltas: [usize; 17],
+    pub deltas: [usize; MOST_LAYERS],
     pub count: usize,
 }
 
@@ -31,14 +39,14 @@ pub fn bare_stack(base: Option<usize>) -> InodeLayerStack
 {
     InodeLayerStack {
         base,
-        deltas: [0; 17],
+        deltas: [0; MOST_LAYERS],
         count: 0,
     }
 }
 
-// The stack with one place more, if it is one.
+// The stack with one place more, if there is one.
 pub fn pushed(stack: InodeLayerStack, place: Option<usize>) -> InodeLayerStack
-    requires { (stack.count ≤ 16) × (length stack.deltas ≡ 17) }
+    requires { stack.count ≤ 16 }
     ensures { Pushed stack place result }
 {
     match place {
@@ -53,7 +61,8 @@ pub fn pushed(stack: InodeLayerStack, place: Option<usize>) -> InodeLayerStack
     }
 }
 
-// Passes the rest of a batch's head: bytes, operations, reason and commit time.
+// Passes the rest of a batch's head: bytes, operations, reason and commit time. Beside `read_batch_head` (writers), as `pass_node` beside
+// `read_node`.
 #[tactic(auto, using(image::proofs::Passing::passes))]
 fn pass_head_rest(img: &[u8], at: usize) -> Result<usize, Fault>
     ensures { Ends img.now head_rest.read at result }
@@ -64,23 +73,22 @@ fn pass_head_rest(img: &[u8], at: usize) -> Result<usize, Fault>
     Moment::pass(img, committed)
 }
 
-// Passes `count` batches, the first of which is at `first`, and gathers the places of the records that they hold of one inode. That they are at
-// most 16 is a clause, for the places of the stack.
+// Passes batches, and gathers the places of the records that they hold of one inode. That they are at most 16 is a clause, for the places of
+// the stack. Not `find_in` (passes), which goes over rows by inode too: what is gathered at a row is another law.
 #[tactic(auto, using(crate::proofs::Batches::gathers))]
 fn gather_batches(
     img: &[u8],
-    first: usize,
-    count: u64,
+    rows: Rows,
     sought: u64,
     base: Option<usize>,
 ) -> Result<(Batches, usize), Fault>
-    requires { (first ≤ length img.now) × (count ≤ 16) }
-    ensures { Gathers img.now sought first count base result }
+    requires { (rows.first ≤ length img.now) × (rows.count ≤ 16) }
+    ensures { Gathers img.now sought rows.first rows.count base result }
 {
-    let mut here = first;
+    let mut here = rows.first;
     let mut last: Option<u64> = None;
     let mut stack = bare_stack(base);
-    for _batch in 0..count {
+    for _batch in 0..rows.count {
         let (id, named) = inode_after(img, here, last)?;
         let records = pass_head_rest(img, named)?;
         let (place, end) = find_inode(img, records, Held::Record, sought)?;
@@ -101,6 +109,6 @@ pub fn gather_queue(
 ) -> Result<(Batches, usize), Fault>
     ensures { GathersQueue img.now sought at base result }
 {
-    let (count, first) = read_number(img, at, 16)?;
-    gather_batches(img, first, count, sought, base)
+    let rows = read_rows(img, at, MOST_BATCHES)?;
+    gather_batches(img, rows, sought, base)
 }

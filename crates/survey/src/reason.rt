@@ -7,6 +7,9 @@ ghost use Rattle.survey.specs.Reasons.{reason_number, ReasonOf};
 use wire::fault::Fault;
 use wire::number::read_number;
 
+// The largest number of a reason.
+pub const LAST_REASON: u64 = 5;
+
 // With their numbers in the image.
 #[derive(Clone, Copy, PartialEq, Eq)]
 pub enum Reason {
@@ -48,7 +51,7 @@ impl TryFrom<u64> for Reason {
 pub fn read_reason(img: &[u8], at: usize) -> Result<(Reason, usize), Fault>
     ensures { Reads img.now (between 1 5 refl).read at (meant reason_number result) }
 {
-    let (number, next) = read_number(img, at, 5)?;
+    let (number, next) = read_number(img, at, LAST_REASON)?;
     let reason = Reason::try_from(number)?;
     Ok((reason, next))
 }

@@ -3,6 +3,7 @@ ghost use Rattle.std.specs.Prelude.{◌≡◌};
 ghost use Rattle.survey.specs.Verdict.{number_of};
 ghost use Rattle.survey.specs.declared.refusal.Refusal.TheVariants.{ImageBroken};
 
+use std::fmt;
 use wire::fault::Fault;
 
 #[derive(Clone, Copy, PartialEq, Eq)]
@@ -13,7 +14,7 @@ pub enum Refusal {
     ImageBroken = 2,
     // the name is empty, or over 255 bytes
     BadName = 3,
-    // a delta breaks the layout, has bytes left over or is a tombstone; or a time has 1,000,000,000 nanoseconds or more; or a reason that is none of 1 to 5
+    // a delta breaks the layout, has bytes left over or is a tombstone; or a time has 1,000,000,000 nanoseconds or more; or a reason is none of 1 to 5
     BadArgument = 4,
     // the new image is over 65,536 bytes or over the target, or the rows are more than were lent
     NoRoom = 5,
@@ -37,6 +38,13 @@ impl Refusal {
         ensures { result ≡ number_of self }
     {
         self as u32
+    }
+}
+
+// As the programs write a refusal.
+impl fmt::Display for Refusal {
+    fn fmt<W: fmt::Write>(&self, f: &mut fmt::Formatter<W>) -> fmt::Result {
+        write!(f, "refused {}", self.number())
     }
 }
 

@@ -5,18 +5,29 @@ ghost use Rattle.survey.specs.Survey.{tail_after, SurveyOf};
 ghost use Rattle.survey.specs.Verdict.{Judges};
 
 use crate::batch::{InodeLayerStack, gather_queue, pushed};
+use crate::reason::LAST_REASON;
 use crate::refusal::Refusal;
 use image::field::{Field, Word, pass_number};
 use passes::inode::{Held, find_inode, inode_after};
 use wire::fault::Fault;
 
-// Where the sections of an image stand, and the records of one inode. The base is at 0.
+// The most bytes of an image.
+pub const MOST_BYTES: usize = 65536;
+
+// Where the sections of an image stand: the base is from 0 to `batches`, and what follows live from `tail` to the end. They do not hold the
+// image: the stack, the walk or the parts of the same call hold it already.
 #[derive(Clone, Copy)]
-pub struct Survey {
-    pub stack: InodeLayerStack,
+pub struct Sections {
     pub batches: usize,
     pub live: usize,
     pub tail: usize,
+}
+
+// Where the sections stand, the records of one inode, and where the store ends.
+#[derive(Clone, Copy)]
+pub struct Survey {
+    pub stack: InodeLayerStack,
+    pub sections: Sections,
     pub end: usize,
 }
 
@@ -29,18 +40,21 @@ pub fn survey_store(img: &[u8], sought: u64) -> Result<Survey, Fault>
     let (queue, live) = gather_queue(img, batches, sought, node)?;
     let (record, tail) = find_inode(img, live, Held::Record, sought)?;
     let end = pass_tail(img, tail, queue.last)?;
-    let under = queue.stack;
-    let stack = pushed(under, record);
-    Ok(Survey {
-        stack,
+    let stack = pushed(queue.stack, record);
+    let sections = Sections {
         batches,
         live,
         tail,
+    };
+    Ok(Survey {
+        stack,
+        sections,
         end,
     })
 }
 
-// Passes next id, which is above the last id of the queue, if there is one, the staged counts and the request.
+// Passes next id, which is above the last id of the queue, if there is one, the staged counts and the request. Beside `read_tail` (writers), as
+// `pass_node` beside `read_node`.
 #[tactic(auto, using(image::proofs::Passing::passes))]
 fn pass_tail(img: &[u8], at: usize, last: Option<u64>) -> Result<usize, Fault>
     ensures { Ends img.now (tail_after last).read at result }
@@ -48,14 +62,14 @@ fn pass_tail(img: &[u8], at: usize, last: Option<u64>) -> Result<usize, Fault>
     let (_, bytes) = inode_after(img, at, last)?;
     let operations = Word::pass(img, bytes)?;
     let request = Word::pass(img, operations)?;
-    pass_number(img, request, 5)
+    pass_number(img, request, LAST_REASON)
 }
 
 // The one pass that every call starts with.
 pub fn read_image(img: &[u8], sought: u64) -> Result<Survey, Refusal>
     ensures { Judges img.now sought result }
 {
-    if 65536 < img.len() {
+    if MOST_BYTES < img.len() {
         return Err(Refusal::ImageTooLong);
     }
     let survey = survey_store(img, sought)?;

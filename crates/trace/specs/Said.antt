@@ -2,11 +2,12 @@
 -- kind: none. Last, a base directory's entries." Here each layer by itself.
 use Rattle.std.specs.Prelude.{◌≡◌, ℕ, zero, suc, ◌+◌, ◌≤◌, ◌<◌, None, Option, Some}
 use Rattle.wire.specs.Orders.{by_bytes}
-use Rattle.wire.specs.Maps.{get, meet}
-use Rattle.image.specs.Meaning.{Text, Body, Node, Change, Record, directory, file, symlink, special, tombstone, delta}
+use Rattle.wire.specs.Maps.{get}
+use Rattle.image.specs.Meaning.{Text}
 use Rattle.image.specs.declared.name.Under.TheVariants as U
-use Rattle.rules.specs.Reads.{Read, child}
+use Rattle.rules.specs.Reads.{child}
 use Rattle.nodes.specs.Listed.{list_at}
+use Rattle.lookup.specs.Children.{has}
 use Rattle.lookup.specs.declared.list.NameList.{NameList}
 use Rattle.stack.specs.InStack.{shown_lowest, shown_in}
 use Rattle.stack.specs.declared.stack.Stack.{Stack}
@@ -20,32 +21,10 @@ abbrev pub entry_says : Option ℕ → Said
 entry_says None = Nothing
 entry_says (Some inode) = Child inode
 
--- "removed name, none; else added name", "Other kind: none."
-abbrev pub change_says : Text → Change → Said
-change_says name (directory p added removed) = meet (λ u x. NoChild) (get by_bytes name removed) (entry_says (get by_bytes name added))
-change_says name (file n) = NoChild
-change_says name (symlink t) = NoChild
-change_says name (special s device) = NoChild
-
--- "Tombstone: none."
-abbrev pub record_says : Text → Record → Said
-record_says name tombstone = NoChild
-record_says name (delta d) = change_says name d.change
-
--- "Last, a base directory's entries."
-abbrev pub body_says : Text → Body → Said
-body_says name (directory p es) = entry_says (get by_bytes name es)
-body_says name (file size) = NoChild
-body_says name (symlink target) = NoChild
-body_says name (special device) = NoChild
-
-abbrev pub base_says : Text → Option Node → Said
-base_says name None = NoChild
-base_says name (Some n) = body_says name n.body
-
--- the topmost layer by itself, whatever is below it
-abbrev pub says : Text → Read Said
-says name = record { base = base_says name; step = λ r below. record_says name r }
+-- what a layer by itself has under the name (crate `lookup`), said
+abbrev pub said_of : Option (Option ℕ) → Said
+said_of None = NoChild
+said_of (Some o) = entry_says o
 
 -- what a lookup answers after a layer spoke, by the answer of the layers below
 abbrev pub over : Said → Option ℕ → Option ℕ
@@ -61,14 +40,15 @@ Speaks (Child i) = Unit {0}
 
 -- ---- the layers of a stack: the base is layer 0, and record i is layer i + 1
 
--- the entries of a list
-abbrev pub SaysList : NameList → Text → Said → Type 0
-SaysList l name r = r ≡ entry_says (get by_bytes name (list_at l.img.now U.Inode l.place))
+-- the entries of a layer; without any it decides that there is no such child
+abbrev pub SaysList : Option NameList → Text → Said → Type 0
+SaysList None name r = r ≡ NoChild
+SaysList (Some l) name r = r ≡ entry_says (get by_bytes name (list_at l.img.now U.Inode l.place))
 
 module _ (s : Stack) (name : Text) where
   -- what layer n says
   abbrev pub says_at : ℕ → Said
-  says_at n = shown_lowest (says name) s n
+  says_at n = said_of (shown_lowest (has name) s n)
 
   -- the answer is what record i says; and so the lookup in it and what is below it
   pub record SaysRecord (i : ℕ) (r : Said) : Type 0 where

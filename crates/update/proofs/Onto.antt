@@ -106,30 +106,28 @@ module _ {img : List ℕ} {at : ℕ} (o : Result (Option FileType × ℕ) Fault)
     after-code : Spans img (at + length (number_bytes (code_of d))) (fields.write d.fields ++ changed d.change) after
     after-code = span-back (number_bytes (code_of d)) (fields.write d.fields ++ changed d.change) delta-span
 
-  module _ {x : Option FileType × ℕ} (z : x ≡ result_unwrap_or o (None, 0)) where
-    -- what was read, as it is meant
-    code_value : {y : Option Kind × ℕ} → meant code_meant o ≡ Ok y → ◌≡◌ {A = Option Kind × ℕ} (code_meant x.0, x.1) y
-    code_value {y} e = go o e z
-      where
-        go : (o : Result (Option FileType × ℕ) Fault) → meant code_meant o ≡ Ok y → x ≡ result_unwrap_or o (None, 0)
-            → ◌≡◌ {A = Option Kind × ℕ} (code_meant x.0, x.1) y
-        go (Ok u) e z = ap (λ (x : Option FileType × ℕ). (code_meant x.0, x.1)) z ∙ same_Ok e
-        go (Err f) e z = let n : ◌≡◌ {A = ℕ} 0 1 = cc in absurd (omega arith)
+  -- the code cannot be read
+  pub onto-unread : {a : AttrDelta} {f : Fault} → o ≡ Err f → Onto img at a N.Tombstone
+  onto-unread e = record {
+    stays = λ after w. refl;
+    merges = λ after d f w. absurd (let c = rw e at (code_read after d w) in let n : ◌≡◌ {A = ℕ} 0 1 = cc in omega arith);
+  }
 
-    code-is : (after : ℕ) (d : Delta) → Spans img at (layer_record.write (delta d)) after → code_meant x.0 ≡ Some (changed_kind d.change)
-    code-is after d w = ap (λ (y : Option Kind × ℕ). y.0) (code_value (code_read after d w))
+  module _ {x : Option FileType} {start : ℕ} (z : o ≡ Ok (x, start)) where
+    code-is : (after : ℕ) (d : Delta) → Spans img at (layer_record.write (delta d)) after → code_meant x ≡ Some (changed_kind d.change)
+    code-is after d w = ap (λ (y : Option Kind × ℕ). y.0) (same_Ok (rw z at (code_read after d w)))
 
-    code-end : (after : ℕ) (d : Delta) → Spans img at (layer_record.write (delta d)) after → x.1 ≡ at + length (number_bytes (code_of d))
-    code-end after d w = ap (λ (y : Option Kind × ℕ). y.1) (code_value (code_read after d w))
+    code-end : (after : ℕ) (d : Delta) → Spans img at (layer_record.write (delta d)) after → start ≡ at + length (number_bytes (code_of d))
+    code-end after d w = ap (λ (y : Option Kind × ℕ). y.1) (same_Ok (rw z at (code_read after d w)))
 
     -- "does nothing on a live tombstone"
-    pub onto-dead : {a : AttrDelta} → x.0 ≡ None → Onto img at a N.Tombstone
+    pub onto-dead : {a : AttrDelta} → x ≡ None → Onto img at a N.Tombstone
     onto-dead e = record {
       stays = λ after w. refl;
       merges = λ after d f w. let c = rw e at (code-is after d w) in absurd (let n : ◌≡◌ {A = ℕ} 0 1 = cc in omega arith);
     }
 
-    module _ {u : Result (AttrDelta × ℕ) Fault} (r : ReadsAttr img x.1 u) where
+    module _ {u : Result (AttrDelta × ℕ) Fault} (r : ReadsAttr img start u) where
       module _ (after : ℕ) (d : Delta) (f : FitsRecord (delta d)) (w : Spans img at (layer_record.write (delta d)) after) where
         fields_read : meant (fields_meant img) u ≡ Ok (d.fields, at + length (number_bytes (code_of d)) + length (fields.write d.fields))
         unfolding fields
@@ -144,7 +142,7 @@ module _ {img : List ℕ} {at : ℕ} (o : Result (Option FileType × ℕ) Fault)
         merges = λ after b f w. absurd (let c = fields_read after b f w in let z : ◌≡◌ {A = ℕ} 0 1 = cc in omega arith);
       }
 
-      module _ {k : FileType} (y : x.0 ≡ Some k) {b : AttrDelta} {end : ℕ} (g : u ≡ Ok (b, end)) where
+      module _ {k : FileType} (y : x ≡ Some k) {b : AttrDelta} {end : ℕ} (g : u ≡ Ok (b, end)) where
         module _ (after : ℕ) (d : Delta) (f : FitsRecord (delta d)) (w : Spans img at (layer_record.write (delta d)) after) where
           fields-are : (fields_meant img b ≡ d.fields) × (end ≡ at + length (number_bytes (code_of d)) + length (fields.write d.fields))
           fields-are =
@@ -176,7 +174,7 @@ module _ {img : List ℕ} {at : ℕ} (o : Result (Option FileType × ℕ) Fault)
             → Onto img at a (N.Updated (record { kind = k; attr_delta = m; new = a.xattrs; old = b.xattrs; change = C.Kept end }))
         onto-delta {a} {m} q = record {
           stays = λ after w.
-              let c : code_meant (Some k) ≡ None = rw y at (ap (λ (y : Option Kind × ℕ). y.0) (code_value (dead-code w))) in
+              let c : code_meant (Some k) ≡ None = rw y at (ap (λ (y : Option Kind × ℕ). y.0) (same_Ok (rw z at (dead-code w)))) in
               absurd (let n : ◌≡◌ {A = ℕ} 0 1 = cc in omega arith);
           merges = λ after d f w. record {
             new = record { kind = k; attr_delta = m; new = a.xattrs; old = b.xattrs; change = C.Kept end };

@@ -1,5 +1,10 @@
 -- Update of one inode's attributes.
 -- Assumes nothing.
+use native.Mathlib.Omega.{arith}
+use mathlib.Core.Bool.{Bool, true, false}
+use Rattle.std.specs.Prelude.{nat_eq, ok_or}
+use Rattle.std.specs.Bool.{then_some}
+use borrow.Author.Tests.{eqb-true, eqb-false}
 use Rattle.wire.specs.declared.part.Part.{Part}
 use Rattle.std.specs.Prelude.{Result, Ok, Err, None, Option, Some}
 use mathlib.Core.Path.{◌≡◌, refl, sym, ap, ◌∙◌}
@@ -48,7 +53,7 @@ use Rattle.overlay.specs.NewRecords.{bare_bytes, updated_bytes, record_row, one_
 use Rattle.update.specs.Updates.{WholeFields, new_delta, merged_delta, Onto, Updates}
 use Rattle.survey.specs.declared.refusal.Refusal.{Refusal}
 use Rattle.survey.specs.declared.refusal.Refusal.TheVariants.{BadArgument}
-use Rattle.change.specs.declared.section.Sections.{Sections}
+use Rattle.survey.specs.declared.store.Sections.{Sections}
 use Rattle.change.specs.declared.cut.Cut.{Cut}
 use Rattle.overlay.specs.declared.record.Updated.{Updated}
 use Rattle.overlay.specs.declared.record.NewRecord.{NewRecord}
@@ -127,20 +132,20 @@ module _ {img : List ℕ} {p : Sections} {s : Store} (w : Stands img p s) {i : �
 
   module _ {n : NewLive} (at : ℕ) (r : NewRecord) (q : n ≡ replaced_of cut i r) (o : Onto img at a r)
       (end : ℕ) (g : ListedIf given U.Change a.xattrs end) where
-    record-bytes : (y : Record) → live_of i s ≡ Some y → Holds img layer_record.read (Some at) (Some y) → Spans img at (layer_record.write y) cut.after
+    record-bytes : (y : Record) → live_of i s ≡ Some y → Holds img layer_record.read (Some at) (Some y) → Spans img at (layer_record.write y) cut.gap.end
         → one_image img given given p n ≡ write_image (on_live i (new_of given a i s) s)
     unfolding layer_record
     record-bytes tombstone e k t =
-        let z = o.stays cut.after t in
+        let z = o.stays cut.gap.end t in
         new-bytes N.Tombstone (Some tombstone) tombstone (q ∙ ap (replaced_of cut i) z) e refl (ap (λ (x : List ℕ). number_bytes i ++ x) tombstone-bytes)
     record-bytes (delta d) e k t =
         let f : FitsRecord (delta d) = (layer_record-one.forth (drop at img) (delta d) k.0 k.1).1 in
-        let m = o.merges cut.after d f t in
+        let m = o.merges cut.gap.end d f t in
         new-bytes (N.Updated m.new) (Some (delta d)) (merged_delta given a d) (q ∙ ap (replaced_of cut i) m.is) e refl
         (ap (λ (x : List ℕ). number_bytes i ++ x) (m.writes given end g))
 
     held_bytes : (h : List (ℕ × Record)) → live_of i s ≡ under_first h → Holds img layer_record.read (Some at) (under_first h)
-        → StandsAt by_number inode layer_record img (Some at) h cut.after
+        → StandsAt by_number inode layer_record img (Some at) h cut.gap.end
         → one_image img given given p n ≡ write_image (on_live i (new_of given a i s) s)
     held_bytes [] e k t = absurd k
     held_bytes (x ∷ h) e k t = record-bytes x.1 e k t
@@ -173,7 +178,7 @@ module _ {k : Stack} {p : Sections} {i : ℕ} {a : AttrDelta} {cut : Cut} {t : O
         let b : type_below s i ≡ Some (kind_meant f) = sym (type-under m w.is v) ∙ sym d ∙ ap type_of z in
         new-bytes w a given c (N.Updated (new_delta f a)) None (bare_delta (fields_meant given a) (kind_meant f))
         (q ∙ ap (λ (r : Updated). replaced_of cut i (N.Updated r)) y) v (ap (map_if (bare_delta (fields_meant given a))) b)
-        (ap (λ (l : List ℕ). number_bytes i ++ l) (new-delta-bytes k.img.now given f a cut.after end g));
+        (ap (λ (l : List ℕ). number_bytes i ++ l) (new-delta-bytes k.img.now given f a cut.gap.end end g));
   }
 
   -- "or does nothing if none exists"
@@ -197,23 +202,30 @@ module _ {given : List ℕ} {o : Result (AttrDelta × ℕ) Fault} (r : ReadsAttr
   fields-broken d = rw (rw d at r).reads.same
 
   module _ {a : AttrDelta} {q : ℕ} (d : o ≡ Ok (a, q)) where
-    pub fields-longer : (q ≡ length given → ⊥) → WholeFields given None
-    fields-longer = read-longer fields (rw d at r).reads
+    pub fields-if : WholeFields given (then_some (nat_eq q (length given)) a)
+    fields-if = go (nat_eq q (length given)) refl
+      where
+        go : (b : Bool) → nat_eq q (length given) ≡ b → WholeFields given (then_some b a)
+        go true e = (read_whole fields (rw d at r).reads (eqb-true q (length given) e), (q, (rw d at r).listed))
+        go false e = read-longer fields (rw d at r).reads (eqb-false q (length given) e)
 
-    pub fields-whole : q ≡ length given → WholeFields given (Some a)
-    fields-whole h = (read_whole fields (rw d at r).reads h, (q, (rw d at r).listed))
-
-module _ {img : List ℕ} {p : Sections} {s : Store} (given : List ℕ) {old : List ℕ} {o : Option AttrDelta} (w : Stands img p s) (r : WholeFields given o) where
+module _ {img : List ℕ} {p : Sections} {s : Store} (given : List ℕ) {old : List ℕ} (w : Stands img p s) where
   -- "4 if the delta given breaks the layout, has bytes left over"
-  pub update-refused : (i : ℕ) → o ≡ None → Changes (update_attr_delta usual img i given (length old)) old (Err BadArgument) old
-  update-refused i e = changes-refused (Call.update i (given_fields given)) w (rw (rw e at r))
+  pub update-refused : (o : Option AttrDelta) → WholeFields given o → (i : ℕ) {u : Result AttrDelta Refusal} {e : Refusal} {answer : Result ℕ Refusal}
+      → u ≡ ok_or o BadArgument → u ≡ Err e → answer ≡ Err e → Changes (update_attr_delta usual img i given (length old)) old answer old
+  update-refused o r i {e = e} {answer} v d z = go o r (sym d ∙ v)
+    where
+      go : (o : Option AttrDelta) → WholeFields given o → ◌≡◌ {A = Result AttrDelta Refusal} (Err e) (ok_or o BadArgument)
+          → Changes (update_attr_delta usual img i given (length old)) old answer old
+      go (Some a) r q = let n : ◌≡◌ {A = ℕ} 0 1 = cc in absurd (omega arith)
+      go None r q = let b : e ≡ BadArgument = cc in rw (z, b) (changes-refused (Call.update i (given_fields given)) w (rw r))
 
-  pub update-made : {i : ℕ} {k : Stack} {a : AttrDelta} {n : NewLive} {new : List ℕ} {answer : Result ℕ Refusal} → o ≡ Some a
-      → StackOf img i k → Updates k p i a n
+  pub update-made : {o : Option AttrDelta} {i : ℕ} {k : Stack} {a : AttrDelta} {n : NewLive} {new : List ℕ} {answer : Result ℕ Refusal}
+      → WholeFields given o → o ≡ Some a → StackOf img i k → Updates k p i a n
       → Changes (if_fits (one_image img given given p n) (length old)) old answer new
       → Changes (update_attr_delta usual img i given (length old)) old answer new
   unfolding result
-  update-made {i} {k} {a} {n} e m u z =
+  update-made {i = i} {k} {a} {n} r e m u z =
       let g = rw e at r in
       let y = m.image_is in
       let h : StackOf k.img.now i k = record { image_is = refl; node_is = rw y m.node_is; records_are = rw y m.records_are } in

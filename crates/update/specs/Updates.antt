@@ -17,7 +17,7 @@ use Rattle.rules.specs.Queue.{on_live, type_below}
 use Rattle.rules.specs.ChangeCalls.{given_fields}
 use Rattle.change.specs.Sections.{Spans, Stands}
 use Rattle.overlay.specs.NewRecords.{updated_bytes, one_image}
-use Rattle.change.specs.declared.section.Sections.{Sections}
+use Rattle.survey.specs.declared.store.Sections.{Sections}
 use Rattle.overlay.specs.declared.record.NewChange.TheVariants as K
 use Rattle.overlay.specs.declared.record.Updated.{Updated}
 use Rattle.overlay.specs.declared.record.NewRecord.{NewRecord}

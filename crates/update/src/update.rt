@@ -6,7 +6,7 @@ ghost use Rattle.change.specs.Changed.{Changes};
 ghost use Rattle.update.specs.Updates.{WholeFields, Onto, Updates, new_delta};
 
 use change::cut::{RecordOf, cut_at};
-use change::section::{Sections, open_inode};
+use change::section::open_inode;
 use fields::fields::attr_over;
 use image::kind::{FileType, read_code};
 use nodes::attr::{AttrDelta, read_attr_delta};
@@ -17,6 +17,7 @@ use stack::file_type::Type;
 use stack::question::decided;
 use stack::stack::Stack;
 use survey::refusal::Refusal;
+use survey::store::Sections;
 
 // Merges the fields given, a mask and what it says is there, into the live delta.
 pub fn update_attr_delta(
@@ -28,33 +29,20 @@ pub fn update_attr_delta(
     ensures { Changes (update_attr_delta usual img.now ino delta.now (length target.old)) target.old result target.new }
 {
     let (sections, stack) = open_inode(img, ino)?;
-    let Some(fields) = whole_fields(delta) else {
-        return Err(Refusal::BadArgument);
-    };
+    let fields = whole_fields(delta).ok_or(Refusal::BadArgument)?;
     let new = with_fields(stack, sections, ino, fields);
-    let copied = Copied {
-        img,
-        given: delta,
-        new_name: delta,
-    };
-    write_record(copied, sections, new, target)
+    write_record(Copied::of(img, delta), sections, new, target)
 }
 
 // The fields that these bytes are, if no bytes are left over.
 fn whole_fields(bytes: &[u8]) -> Option<AttrDelta>
     ensures { WholeFields bytes.now result }
 {
-    let Ok((fields, end)) = read_attr_delta(bytes, 0) else {
-        return None;
-    };
-    let left_over = end != bytes.len();
-    if left_over {
-        return None;
-    }
-    Some(fields)
+    let (fields, end) = read_attr_delta(bytes, 0).ok()?;
+    (end == bytes.len()).then_some(fields)
 }
 
-// The image with the fields merged into the live delta; with no live record, with a delta of the type below.
+// The live records, with the fields merged into the live delta; with no live record, with a delta of the type below.
 fn with_fields(stack: Stack, sections: Sections, ino: u64, fields: AttrDelta) -> NewLive
     ensures { Updates stack.entry sections ino fields result }
 {
@@ -72,8 +60,7 @@ fn with_fields(stack: Stack, sections: Sections, ino: u64, fields: AttrDelta) ->
 fn onto_live(img: &[u8], at: usize, fields: AttrDelta) -> NewRecord
     ensures { Onto img.now at fields result }
 {
-    let (code, start) = read_code(img, at).unwrap_or((None, 0));
-    let Some(kind) = code else {
+    let Ok((Some(kind), start)) = read_code(img, at) else {
         return NewRecord::Tombstone;
     };
     let Ok((below, end)) = read_attr_delta(img, start) else {

@@ -22,15 +22,16 @@
 
 mod answer;
 mod lend;
+mod list;
 mod reads;
 
 use answer::answer;
 use input::fill;
-use script::line::replay;
+use script::line::{MOST_LIST, replay};
 use std::io;
 
 fn main(rt: HostRuntime) -> io::Result<()> {
-    let mut list = [0u8; 262144];
+    let mut list = [0u8; MOST_LIST];
     let length = fill(&mut rt.stdin(), &mut list)?;
     replay(&rt, &list[..length], |rt, line| answer(rt, line))
 }

@@ -1,5 +1,5 @@
-// Replays a fixed list of changes from standard input: each line is written again, with the answer behind it: the new image's length and
-// bytes, or 'refused' and a number. The answers are the published Rust's (rust/oracle). A line is words with one space between; bytes are
+// Replays a fixed list of changes from standard input: each line is written again, with the answer behind it: the new image's bytes,
+// or 'refused' and a number. The answers are the published Rust's (rust/oracle). A line is words with one space between; bytes are
 // hexadecimal, '-' stands for none. ROOM is the length of the lent target; SECONDS has its sign before it.
 //
 //     insert INODE DELTA ROOM BYTES                    tombstone INODE ROOM BYTES
@@ -15,11 +15,12 @@ mod changes;
 
 use changes::answer;
 use input::fill;
-use script::line::replay;
+use script::line::{MOST_LIST, replay};
 use std::io;
 
+// As in `vectors`: crate `script` reads no input.
 fn main(rt: HostRuntime) -> io::Result<()> {
-    let mut list = [0u8; 262144];
+    let mut list = [0u8; MOST_LIST];
     let length = fill(&mut rt.stdin(), &mut list)?;
     replay(&rt, &list[..length], |rt, line| answer(rt, line))
 }

@@ -49,7 +49,7 @@ pub record Totalling (img : List ℕ) (first n here left b o : ℕ) : Type 0 whe
   pub few_operations : o + left * 4294967295 ≤ n * 4294967295
 
 module _ {img : List ℕ} {first n here left b o : ℕ} (w : Totalling img first n here left b o) where
-  pub totalling-all : left ≤ 0 → Totalled img first n (record { first = first; count = n; bytes = b; operations = o })
+  pub totalling-all : left ≤ 0 → Totalled img first n (record { rows = record { first = first; count = n }; bytes = b; operations = o })
   totalling-all h = record {
     from = refl;
     counts = refl;
@@ -58,7 +58,7 @@ module _ {img : List ℕ} {first n here left b o : ℕ} (w : Totalling img first
   }
 
   module _ {u : Result (BatchHead × ℕ) Fault} (r : Reads img pass_batch here (meant head_meant u)) where
-    pub totalling-stop : {y : Fault} → u ≡ Err y → Totalled img first n (record { first = first; count = n; bytes = b; operations = o })
+    pub totalling-stop : {y : Fault} → u ≡ Err y → Totalled img first n (record { rows = record { first = first; count = n }; bytes = b; operations = o })
     totalling-stop e =
         let g = rw e at r in
         record {

@@ -28,8 +28,8 @@ sum_from f (suc n) s = or_zero (pass_batch s) (λ h q. f h + sum_from f n q)
 
 -- "their bytes or their operations in all"
 pub record Totalled (img : List ℕ) (first n : ℕ) (r : Queue) : Type 0 where
-  pub from : r.first ≡ first
-  pub counts : r.count ≡ n
+  pub from : r.rows.first ≡ first
+  pub counts : r.rows.count ≡ n
   pub bytes : r.bytes ≡ sum_from head_bytes n (drop first img)
   pub operations : r.operations ≡ sum_from head_operations n (drop first img)
 
@@ -42,7 +42,7 @@ pub record QueueAt (img : List ℕ) (at : ℕ) (r : Queue) : Type 0 where
 -- "6 if batches, their bytes or their operations in all have each reached or passed its own given limit in at least one of the three, or
 -- there are 16 batches"
 abbrev pub at_capacity : Queue → ℕ → ℕ → ℕ → Bool
-at_capacity q depth bytes operations = (leb depth q.count || leb bytes q.bytes) || (leb operations q.operations || leb 16 q.count)
+at_capacity q depth bytes operations = (leb depth q.rows.count || leb bytes q.bytes) || (leb operations q.operations || leb 16 q.rows.count)
 
 -- "with next id, staged counts, requested reason (else Threshold) and commit time"
 abbrev pub frozen_head : TailParts → Time → HeadParts

@@ -4,12 +4,12 @@ ghost use Rattle.waiting.specs.Queues.{QueueAt, Totalled};
 
 use change::batch::pass_batch;
 use image::rows::{Rows, rows_at};
+use survey::batch::MOST_BATCHES;
 
-// The queue: the place of its first batch, how many there are, and their bytes and operations in all.
+// The queue: its batches, and their bytes and operations in all.
 #[derive(Clone, Copy)]
 pub struct Queue {
-    pub first: usize,
-    pub count: u64,
+    pub rows: Rows,
     pub bytes: u64,
     pub operations: u64,
 }
@@ -18,7 +18,7 @@ pub struct Queue {
 pub fn read_queue(img: &[u8], at: usize) -> Queue
     ensures { QueueAt img.now at result }
 {
-    let rows = rows_at(img, at, 16);
+    let rows = rows_at(img, at, MOST_BATCHES);
     total_batches(img, rows)
 }
 
@@ -39,8 +39,7 @@ fn total_batches(img: &[u8], rows: Rows) -> Queue
         here = end;
     }
     Queue {
-        first: rows.first,
-        count: rows.count,
+        rows,
         bytes,
         operations,
     }

@@ -27,10 +27,9 @@ use Rattle.image.specs.NodeLayout.{node}
 use Rattle.image.specs.StoreLayout.{batches}
 use Rattle.image.specs.Rows.{RowsAt}
 use Rattle.image.specs.declared.rows.Rows.{Rows}
-use Rattle.image.proofs.Listed.{rows-read}
 use Rattle.image.specs.RecordLayout.{layer_record, records}
 use Rattle.survey.specs.Gathering.{batch_head}
-use Rattle.passes.specs.Held.{HeldUnder, held, Finds}
+use Rattle.passes.specs.Held.{HeldUnder, held}
 use Rattle.image.specs.Places.{Ends}
 use Rattle.passes.specs.declared.inode.Held.{Held}
 use Rattle.passes.specs.declared.inode.Held.TheVariants as H
@@ -41,10 +40,10 @@ use Rattle.merge.proofs.Few.{pile-few}
 use Rattle.walk.specs.Walks.{laying, stacks_of}
 use Rattle.change.specs.Batches.{HeadParts}
 use Rattle.change.specs.Sections.{Spans, Stands}
-use Rattle.change.specs.declared.section.Sections.{Sections}
+use Rattle.survey.specs.declared.store.Sections.{Sections}
 use Rattle.change.proofs.Batches.{head_of, queue_bytes}
-use Rattle.change.proofs.Sections.{span-front, span-back, span-both, ends-past, value-is, value-ok, stands-fits}
-use Rattle.change.proofs.Queued.{stands-counted, stands-count, stands-queue}
+use Rattle.change.proofs.Sections.{span-front, span-back, span-both, ends-past, value-is, stands-fits}
+use Rattle.change.proofs.Queued.{rows-count, rows-queue}
 use Rattle.writers.specs.Batches.{head_meant}
 use Rattle.writers.specs.declared.batch.BatchHead.{BatchHead}
 use Rattle.walk.specs.Runs.{of_node, of_record, piece, Row, rows_read, list_rows, run_rows, Sound, ListOf}
@@ -278,13 +277,11 @@ module _ {img : List ℕ} {n : ℕ} {p : Sections} {rows : Rows} (a : RowsAt img
   given : {s : Store} → Stands img p s → n ≤ length (layers s) → Given img s rows.count rows.first n p.tail
   unfolding node
   given {s} w m =
-      let r = rows-read a in
-      let d = value-ok (0, 0) (stands-counted w r.1) r.2 in
       record {
         fits = stands-fits w;
         nodes = ap (list_rows H.Node) w.base.is ∙ list-are H.Node s.base (drop p.batches img) (stands-fits w).base;
-        count = stands-count w r.1 d;
-        stands = rw (layers-start) (span-both (stands-queue w r.1 d) w.live);
+        count = rows-count w a;
+        stands = rw (layers-start) (span-both (rows-queue w a) w.live);
         many = m;
       }
 
@@ -345,15 +342,3 @@ module _ {img : List ℕ} {at : ℕ} {o : Result (BatchHead × ℕ) Fault} (h : 
   head-stops e c = let g = rw e at h in rw c (record { same = rw (g.same); within = tt })
 
 pub ruleset heads = (head-ends, head-stops, handed)
-
--- where a list of records ends
-module _ {img : List ℕ} {at : ℕ} {o : Result (Option ℕ × ℕ) Fault} (f : Finds img H.Record 0 at o) where
-  pub list-ends : {place : Option ℕ} {q : ℕ} → o ≡ Ok (place, q) → Ends img records.read at (Ok q)
-  unfolding layer_record
-  list-ends d = let g = rw d at f in g.ends
-
-  pub list-endless : {y : Fault} {r : Result ℕ Fault} → o ≡ Err y → r ≡ Err y → Ends img records.read at r
-  unfolding layer_record
-  list-endless d e = let g = rw d at f in rw e (g.ends)
-
-pub ruleset list_ends = (list-ends, list-endless, handed)

@@ -17,9 +17,9 @@ use Rattle.wire.specs.Number.{edge, number_read}
 use Rattle.wire.specs.Orders.{by_number, cmp_n, same-N}
 use Rattle.wire.specs.Rows.{choose}
 use Rattle.wire.specs.Lists.{last_count}
-use Rattle.wire.specs.Reading.{Reads}
+use Rattle.wire.specs.Reading.{Reads, meant}
 use Rattle.image.specs.FieldLayout.{inode}
-use Rattle.passes.specs.Held.{held}
+use Rattle.passes.specs.Held.{HeldUnder, held}
 use Rattle.image.specs.Places.{Ends}
 use Rattle.image.specs.Rows.{RowsAt}
 use Rattle.image.specs.declared.rows.Rows.{Rows}
@@ -47,6 +47,11 @@ ok-none : {X : Type 0} (o : Result X Fault) → result_ok o ≡ None → (f : Fa
 ok-none (Ok y) e = cc
 ok-none (Err f) e = (f, refl)
 
+-- an inode is meant by itself
+pub read-plain : (o : Result (ℕ × ℕ) Fault) → meant (λ n. n) o ≡ o
+read-plain (Ok y) = refl
+read-plain (Err f) = refl
+
 module _ {img : List ℕ} (h : Held) {n p : ℕ} where
   pub from-none : (1 ≤ n → ⊥) → {r : Option Run} → r ≡ None → RowsOf img h n p r
   unfolding rows_read
@@ -65,7 +70,7 @@ module _ {img : List ℕ} (h : Held) {n p : ℕ} where
           let g = rw (ok-some o d) at a in
           rw e (record { are = rw (first, g.same, ends-fault (rw (ok-none u c).1 at v)); sound = tt })
 
-      pub from_row : {z : ℕ} → result_ok u ≡ Some z → RowsOf img h n p (Some (record { inode = i; place = q; next = z; left = m }))
+      pub from_row : {z : ℕ} → result_ok u ≡ Some z → RowsOf img h n p (Some (record { inode = i; place = q; rest = record { first = z; count = m } }))
       from_row c =
           let g = rw (ok-some o d) at a in
           let x = ends-got (rw (ok-some u c) at v) in
@@ -97,7 +102,7 @@ module _ {img : List ℕ} {h : Held} {old : Option Run} {k : ℕ} (s : Sound img
   moved_none e = rw e (record { rows = refl; sound = tt; head = refl; ends = tt })
 
   module _ {r : Run} (e : old ≡ Some r) where
-    pub moved_here : r.inode ≡ k → {next : Option Run} → RowsOf img h r.left r.next next → Moved img h old k (Some r.place) next
+    pub moved_here : r.inode ≡ k → {next : Option Run} → RowsOf img h r.rest.count r.rest.first next → Moved img h old k (Some r.place) next
     unfolding pass
     moved_here i d =
         let a = left-as _ (rw e at s) in
@@ -123,6 +128,12 @@ module _ {img : List ℕ} {h : Held} {old : Option Run} {k : ℕ} (s : Sound img
 
 pub ruleset moves = (moved_none, moved_here, moved_other)
 
+-- what ends somewhere is read
+pub reads-there : (img : List ℕ) (h : Held) (p : ℕ) (o : Option ℕ) → EndsAt img h (Some p) o
+    → (a : HeldUnder h) × (e : ℕ) × ((held h).read (drop p img) ≡ got a (drop e img))
+reads-there img h p None z = absurd z
+reads-there img h p (Some e) z = (z.0, e, z.1)
+
 -- the place says whether the first row is of the inode
 pub has-head : {img : List ℕ} {h : Held} {old new : Option Run} {k : ℕ} {place : Option ℕ} → Moved img h old k place new
     → is_some place ≡ is_there (head_if by_number k (run_rows img h old))
@@ -130,4 +141,4 @@ has-head {img} {h} {old} {place = place} m = go place m.head m.ends
   where
     go : (o : Option ℕ) → {x : Option Piece} → x ≡ piece_at img h o → EndsAt img h o (next_of old) → is_some o ≡ is_there x
     go None e z = rw e
-    go (Some p) e z = rw (e, z.1)
+    go (Some p) e z = let y = reads-there img h p (next_of old) z in rw (e, y.2)

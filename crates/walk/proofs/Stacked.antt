@@ -56,7 +56,7 @@ module _ (b : Base) (ls : List Layer) where
       go None = refl
       go (Some n) = refl
 
-  pub stacks-are : (i : ℕ) → or_nothing (lookup by_number i (stacks_of (layers_on ls (node_rows b ∷ [])))) ≡ (stack i ls, get by_number i b)
+  stacks-are : (i : ℕ) → or_nothing (lookup by_number i (stacks_of (layers_on ls (node_rows b ∷ [])))) ≡ (stack i ls, get by_number i b)
   unfolding rows_of map_values get
   stacks-are i =
       rw (rows_on ls (map_values by_number of_node b ∷ []), pile-merged by_number laying (maps_on ls (map_values by_number of_node b ∷ []))) (stack-under i)

@@ -4,7 +4,7 @@ use Rattle.std.specs.Prelude.{None, Option, Some, is_some}
 use mathlib.Core.Path.{◌≡◌, refl, sym, ap, ◌∙◌}
 use mathlib.Core.Bool.{Bool, false}
 use mathlib.Core.List.{List, [], ◌∷◌, ◌++◌, append-nil}
-use Prim.Native.Nat.{ℕ, ◌+◌, ◌≤◌, ◌<◌}
+use Prim.Native.Nat.{ℕ, ◌+◌, ◌≤◌, ◌<◌, min}
 use native.Mathlib.Omega.{arith}
 use lib.ListN.{length, take, drop, get_or, set}
 use Rattle.std.specs.List.{All}
@@ -14,9 +14,8 @@ use Rattle.std.proofs.lemmas.List.{get_or-drop, drop-drop, drop-set-lt, at_drop_
 use Rattle.std.proofs.lemmas.List.Elements.{All-nil, All-head, All-tail, All-push, All-get_or}
 use Rattle.std.specs.declared.cmp.Ordering.{Ordering}
 use Rattle.std.specs.declared.cmp.Ordering.TheVariants.{Less, Equal, Greater}
-use Rattle.wire.specs.Orders.{by_number, greater-N, says, Says, cmp_n}
+use Rattle.wire.specs.Orders.{by_number, says, Says, cmp_n}
 use Rattle.wire.specs.Maps.{meet}
-use Rattle.wire.specs.Rows.{choose}
 use Rattle.image.specs.Meaning.{Node}
 use Rattle.survey.specs.Gathering.{list_if, deltas_of, Bare, Pushed}
 use Rattle.passes.specs.declared.inode.Held.{Held}
@@ -26,7 +25,7 @@ use Rattle.rules.specs.Reads.{is_there}
 use Rattle.rules.specs.PlacedStacks.{records_on, unplaced, unplaced_node, node_at}
 use Rattle.rules.proofs.PlacedStack.{records-snoc}
 use Rattle.stack.specs.Stacks.{AllRead}
-use Rattle.merge.specs.Pile.{first_key, pick_key, lower, least_key, head_if, pass, pass_all, answer, total}
+use Rattle.merge.specs.Pile.{first_key, pick_key, lower, least_key, head_if, pass, pass_all, answer}
 use Rattle.merge.proofs.Piles.{pile-step, pile-end, ascend-pass}
 use Rattle.walk.specs.Runs.{Piece, Row, run_rows, Sound, piece_at, EndsAt, next_of, Moved}
 use Rattle.walk.specs.Ready.{layers_over, sources_in, Ready}
@@ -35,7 +34,7 @@ use Rattle.walk.specs.declared.run.Run.{Run}
 use Rattle.walk.specs.declared.run.Runs.{Runs}
 use Rattle.walk.specs.declared.walk.Walk.{Walk}
 use Rattle.walk.specs.declared.walk.Step.{Step}
-use Rattle.walk.proofs.Running.{has-head, left-as}
+use Rattle.walk.proofs.Running.{reads-there, has-head, left-as}
 
 -- ---- the lesser of two inodes
 
@@ -44,25 +43,22 @@ module _ {best : Option ℕ} {o : Option Run} where
   lower-none e = rw e (record { is = refl })
 
   module _ {r : Run} (n : o ≡ Some r) where
-    pub lower-kept : {k : ℕ} → best ≡ Some k → k < r.inode → Lower best o best
-    lower-kept {k} e l = record { is = rw (n, e, greater-N r.inode k l) }
-
-    pub lower-taken : {k : ℕ} → best ≡ Some k → r.inode ≤ k → Lower best o (Some r.inode)
-    lower-taken {k} e l = record { is = rw (n, e) (go (cmp_n r.inode k) (says r.inode k)) }
-      where
-        go : (o : Ordering) → Says r.inode k o → Some r.inode ≡ pick_key by_number o r.inode k
-        go Less s = refl
-        go Equal s = refl
-        go Greater s = absurd (omega arith)
-
     pub lower-first : best ≡ None → Lower best o (Some r.inode)
     lower-first e = record { is = rw (n, e) }
 
-pub ruleset lowers = (lower-none, lower-kept, lower-taken, lower-first)
+    pub lower-least : {k : ℕ} → best ≡ Some k → Lower best o (Some (min k r.inode))
+    lower-least {k} e = record { is = rw (n, e) (go (cmp_n r.inode k) (says r.inode k)) }
+      where
+        go : (o : Ordering) → Says r.inode k o → Some (min k r.inode) ≡ pick_key by_number o r.inode k
+        go Less s = let z : min k r.inode ≡ r.inode = omega arith in ap Some z
+        go Equal s = let z : min k r.inode ≡ r.inode = omega arith in ap Some z
+        go Greater s = let z : min k r.inode ≡ k = omega arith in ap Some z
+
+pub ruleset lowers = (lower-none, lower-first, lower-least)
 
 -- ---- the rows of layers
 
-pub over-snoc : (img : List ℕ) (rs : List (Option Run)) (r : Option Run) (ss : List (List Row))
+over-snoc : (img : List ℕ) (rs : List (Option Run)) (r : Option Run) (ss : List (List Row))
     → layers_over img (rs ++ (r ∷ [])) ss ≡ run_rows img H.Record r ∷ layers_over img rs ss
 unfolding layers_over
 over-snoc img [] r ss = refl
@@ -110,21 +106,21 @@ least-all {w} b o =
 
 -- ---- the stack of an inode
 
-node-pieces : (img : List ℕ) (k : ℕ) (place : Option ℕ) (e : ℕ) → EndsAt img H.Node place e
+node-pieces : (img : List ℕ) (k : ℕ) (place e : Option ℕ) → EndsAt img H.Node place e
     → ◌≡◌ {A = Pieces} ([], unplaced_node (node_at img place)) (or_nothing (meet (laying k) (piece_at img H.Node place) None))
 node-pieces img k None e r = refl
-node-pieces img k (Some p) e r = rw r.1
+node-pieces img k (Some p) e r = rw (reads-there img H.Node p e r).2
 
 -- a record more, if there is one
-record-pieces : (img : List ℕ) (k : ℕ) (ps : List ℕ) (place : Option ℕ) (e : ℕ) (b : Option Node) (o : Option Pieces) → EndsAt img H.Record place e
+record-pieces : (img : List ℕ) (k : ℕ) (ps : List ℕ) (place e : Option ℕ) (b : Option Node) (o : Option Pieces) → EndsAt img H.Record place e
     → ◌≡◌ {A = Pieces} (unplaced (records_on img ps []), b) (or_nothing o)
     → ◌≡◌ {A = Pieces} (unplaced (records_on img (ps ++ list_if place) []), b) (or_nothing (meet (laying k) (piece_at img H.Record place) o))
 record-pieces img k ps None n b o r e = rw append-nil e
-record-pieces img k ps (Some p) n b o r e = rw (records-snoc, r.1, ← e)
+record-pieces img k ps (Some p) n b o r e = rw (records-snoc, (reads-there img H.Record p n r).2, ← e)
 
-read_more : (img ps : List ℕ) (place : Option ℕ) (e : ℕ) → AllRead img ps → EndsAt img H.Record place e → AllRead img (ps ++ list_if place)
+read_more : (img ps : List ℕ) (place e : Option ℕ) → AllRead img ps → EndsAt img H.Record place e → AllRead img (ps ++ list_if place)
 read_more img [] None e h r = tt
-read_more img [] (Some p) e h r = (rw r.1 tt, tt)
+read_more img [] (Some p) e h r = (rw (reads-there img H.Record p e r).2 tt, tt)
 read_more img (q ∷ ps) None e h r = (h.0, read_more img ps None e h.1 r)
 read_more img (q ∷ ps) (Some p) e h r = (h.0, read_more img ps (Some p) e h.1 r)
 
@@ -134,7 +130,7 @@ sources_to img base rs i = layers_over img (take i rs) (run_rows img H.Node base
 
 -- of the layers rs over a base, the lowest i are past the inode k, and the others are not moved
 pub record Taking (img : List ℕ) (k : ℕ) (old : Option Run) (place : Option ℕ) (rs ns : List (Option Run)) (places : InodeLayerStack)
-    (b : Bool) (i : ℕ) : Type 0 where
+    (top : Bool) (i : ℕ) : Type 0 where
   pub many : length ns ≡ length rs
   pub ahead : drop i ns ≡ drop i rs
   pub sound : All (Sound img H.Record) (take i ns)
@@ -144,7 +140,7 @@ pub record Taking (img : List ℕ) (k : ℕ) (old : Option Run) (place : Option 
   pub few : places.count ≤ i
   pub wide : length places.deltas ≡ 17
   pub pieces : pieces_at img places ≡ or_nothing (answer by_number laying k (sources_to img old rs i))
-  pub top : b ≡ is_there (head_if by_number k (top_of (sources_to img old rs i)))
+  pub topmost : top ≡ is_there (head_if by_number k (top_of (sources_to img old rs i)))
 
 module _ {img : List ℕ} {k : ℕ} {old new : Option Run} {place : Option ℕ} (m : Moved img H.Node old k place new) where
   pub taking-start : {places : InodeLayerStack} → Bare place places → {b : Bool} → b ≡ is_some place → (rs : List (Option Run))
@@ -160,7 +156,7 @@ module _ {img : List ℕ} {k : ℕ} {old new : Option Run} {place : Option ℕ} 
     few = rw b.few (omega arith);
     wide = b.wide;
     pieces = rw (b.few, b.base_kept, m.head) (node-pieces img k place (next_of old) m.ends);
-    top = e ∙ has-head m;
+    topmost = e ∙ has-head m;
   }
 
 -- with one layer more, as it was and as it is
@@ -207,7 +203,7 @@ module _ {img : List ℕ} {k : ℕ} {old : Option Run} {place : Option ℕ} {rs 
           pieces =
               rw (over_more img rs i d (run_rows img H.Node old ∷ []) (omega arith), u.places, u.base, here.head)
               (record-pieces img k (deltas_of places) at (next_of (get_or rs i d)) base below here.ends t.pieces);
-          top = rw (over_more img rs i d (run_rows img H.Node old ∷ []) (omega arith)) (e ∙ has-head here);
+          topmost = rw (over_more img rs i d (run_rows img H.Node old ∷ []) (omega arith)) (e ∙ has-head here);
         }
 
     -- and no place more
@@ -248,22 +244,6 @@ answered ((u ∷ s) ∷ ss) k h = go (least_key by_number ss) refl h (answered s
         choice Less h = here h
         choice Equal h = here h
         choice Greater h = let z : b ≡ k = cc in below (head_if by_number k (u ∷ s)) (ih k (e ∙ ap Some z))
-
--- the rows that are left are no more
-pass-few : (k : ℕ) (s : List Row) → length (pass by_number k s) ≤ length s
-unfolding pass
-pass-few k [] = omega arith
-pass-few k (e ∷ s) = go (cmp_n k e.0)
-  where
-    go : (o : Ordering) → length (choose o s (e ∷ s)) ≤ length (e ∷ s)
-    go Less = omega arith
-    go Equal = omega arith
-    go Greater = omega arith
-
-total-pass : (k : ℕ) (ss : List (List Row)) → total (pass_all by_number k ss) ≤ total ss
-unfolding total pass_all
-total-pass k [] = omega arith
-total-pass k (s ∷ ss) = omega (arith, pass-few k s, total-pass k ss)
 
 module _ {img : List ℕ} {old new : Runs} (g : Ready img old) {k : ℕ} {r : Step} (t : Taken img old k r new) where
   pub still-ready : Ready img new

@@ -9,7 +9,7 @@ use Rattle.survey.specs.Gathering.{batch_head}
 use Rattle.rules.specs.Stacks.{layers}
 use Rattle.rules.proofs.MapValues.{map_row}
 use Rattle.change.specs.Sections.{Spans, Stands}
-use Rattle.change.specs.declared.section.Sections.{Sections}
+use Rattle.survey.specs.declared.store.Sections.{Sections}
 use Rattle.change.proofs.Batches.{head_of, queue_bytes}
 use Rattle.walk.specs.Runs.{of_node, of_record, Row}
 use Rattle.walk.specs.Ready.{sources_in, Ready}

@@ -45,7 +45,7 @@ list_rows h s = rows_if (number_read last_count s) (λ n r. rows_read h n r)
 -- the rows of a run: the one that it is at, and those that follow; there is none in none
 abbrev pub run_rows : List ℕ → Held → Option Run → List Row
 run_rows img h None = []
-run_rows img h (Some r) = rows_if ((held h).read (drop r.place img)) (λ a s. (r.inode, piece h a) ∷ rows_read h r.left (drop r.next img))
+run_rows img h (Some r) = rows_if ((held h).read (drop r.place img)) (λ a s. (r.inode, piece h a) ∷ rows_read h r.rest.count (drop r.rest.first img))
 
 -- ---- what the functions over a run promise
 
@@ -57,7 +57,7 @@ Leaves (got a r) s = r ≡ s
 -- what stands under the inode is read at its place, and ends at the next
 abbrev pub Sound : List ℕ → Held → Option Run → Type 0
 Sound img h None = Unit {0}
-Sound img h (Some r) = Leaves ((held h).read (drop r.place img)) (drop r.next img)
+Sound img h (Some r) = Leaves ((held h).read (drop r.place img)) (drop r.rest.first img)
 
 -- which can be said in one way alone
 leaves-prop : {A : Type 0} (o : Parsed A) (s : List ℕ) → IsProp (Leaves o s)
@@ -66,7 +66,7 @@ leaves-prop (got a r) s = hlevel props
 
 pub Sound-prop : (img : List ℕ) (h : Held) (o : Option Run) → IsProp (Sound img h o)
 Sound-prop img h None = hlevel
-Sound-prop img h (Some r) = leaves-prop ((held h).read (drop r.place img)) (drop r.next img)
+Sound-prop img h (Some r) = leaves-prop ((held h).read (drop r.place img)) (drop r.rest.first img)
 
 pub record RowsOf (img : List ℕ) (h : Held) (n p : ℕ) (r : Option Run) : Type 0 where
   pub are : run_rows img h r ≡ rows_read h n (drop p img)
@@ -82,14 +82,15 @@ piece_at img h None = None
 piece_at img h (Some p) = if_read ((held h).read (drop p img)) (λ a r. Some (piece h a))
 
 -- it is read there, and ends there
-abbrev pub EndsAt : List ℕ → Held → Option ℕ → ℕ → Type 0
-EndsAt img h None e = Unit {0}
-EndsAt img h (Some p) e = (a : HeldUnder h) × ((held h).read (drop p img) ≡ got a (drop e img))
+abbrev pub EndsAt : List ℕ → Held → Option ℕ → Option ℕ → Type 0
+EndsAt img h None o = Unit {0}
+EndsAt img h (Some p) None = ⊥
+EndsAt img h (Some p) (Some e) = (a : HeldUnder h) × ((held h).read (drop p img) ≡ got a (drop e img))
 
 -- where what stands under the inode ends
-abbrev pub next_of : Option Run → ℕ
-next_of None = 0
-next_of (Some r) = r.next
+abbrev pub next_of : Option Run → Option ℕ
+next_of None = None
+next_of (Some r) = Some r.rest.first
 
 -- the run past the inode k, and the place of what stood under k in it
 pub record Moved (img : List ℕ) (h : Held) (old : Option Run) (k : ℕ) (place : Option ℕ) (new : Option Run) : Type 0 where

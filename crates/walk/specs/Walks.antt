@@ -73,7 +73,7 @@ pub record Least (w : Walk) (r : Option ℕ) : Type 0 where
   pub is : least_key by_number (sources_of w) ≡ r
 
 -- the node at a place ends there; no place, no node
-abbrev pub NodeEnds : List ℕ → Option ℕ → ℕ → Type 0
+abbrev pub NodeEnds : List ℕ → Option ℕ → Option ℕ → Type 0
 NodeEnds img o e = EndsAt img H.Node o e
 
 -- the stack of the inode k, which no run is past

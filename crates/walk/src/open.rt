@@ -1,16 +1,17 @@
 // The runs of a walk over the base and the first layers of an image.
 ghost use Rattle.std.specs.Prelude.{◌≤◌, ◌≡◌};
 ghost use Rattle.image.specs.Places.{Ends};
-ghost use Rattle.image.specs.RecordLayout.{records};
 ghost use Rattle.survey.specs.Gathering.{batch_head};
 ghost use Rattle.walk.specs.Opens.{OpensLayers};
 ghost use Rattle.walk.specs.Ready.{Ready};
 
 use crate::run::{Runs, run_at};
 use crate::walk::Walk;
-use change::section::Sections;
+use change::batch::records_end;
 use image::rows::rows_at;
-use passes::inode::{Held, find_inode};
+use passes::inode::Held;
+use survey::batch::{MOST_BATCHES, MOST_LAYERS};
+use survey::store::Sections;
 use wire::fault::Fault;
 use writers::batch::read_batch_head;
 
@@ -43,23 +44,14 @@ fn batch_records(img: &[u8], at: usize) -> Result<usize, Fault>
     Ok(records)
 }
 
-// Where the list of records at `at` ends.
-#[tactic(auto, using(crate::proofs::Opening::list_ends))]
-fn records_end(img: &[u8], at: usize) -> Result<usize, Fault>
-    ensures { Ends img.now records.read at result }
-{
-    let (_, end) = find_inode(img, at, Held::Record, 0)?;
-    Ok(end)
-}
-
 // The runs of the base and the first `n` layers: the batches, front first, and then live.
 pub fn open_layers(img: &[u8], sections: Sections, n: u64) -> Layers
     requires { n ≤ 17 }
     ensures { OpensLayers img.now sections n result }
 {
-    let batches = rows_at(img, sections.batches, 16);
+    let batches = rows_at(img, sections.batches, MOST_BATCHES);
     let base = run_at(img, 0, Held::Node);
-    let mut layers = [None; 17];
+    let mut layers = [None; MOST_LAYERS];
     let count = n as usize;
     let mut top = batches.first;
     let mut end = batches.first;

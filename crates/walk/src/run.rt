@@ -2,42 +2,39 @@
 ghost use Rattle.std.specs.Prelude.{◌≡◌};
 ghost use Rattle.walk.specs.Runs.{RowsOf, ListOf, Sound, Moved, next_of};
 
-use image::field::LAST_WORD;
-use image::rows::rows_at;
+use image::field::{Inode, LAST_WORD};
+use image::rows::{Rows, rows_at};
+use nodes::field::ReadField;
 use passes::inode::{Held, pass_held};
-use wire::number::read_number;
+use survey::batch::MOST_LAYERS;
 
-// A list by inode, at one of its rows: its inode, the place of what stands under it and the place after that, and how many rows follow.
+// A list by inode, at one of its rows: its inode, the place of what stands under it, and the rows that follow.
 #[derive(Clone, Copy)]
 pub struct Run {
     pub inode: u64,
     pub place: usize,
-    pub next: usize,
-    pub left: u64,
+    pub rest: Rows,
 }
 
-// The runs of the base and of `count` layers over it, the lowest first. No `Vec`: the project has no heap.
+// The runs of the base and of `count` layers over it, the lowest first. No `Vec`: the project has no heap; no
+// `ArrayVec`, as in `InodeLayerStack` (survey).
 #[derive(Clone, Copy)]
 pub struct Runs {
     pub base: Option<Run>,
-    pub layers: [Option<Run>; 17],
+    pub layers: [Option<Run>; MOST_LAYERS],
     pub count: usize,
 }
 
-// The run at the first of the `count` rows from `at` on, if there are any.
+// The run at the first of these rows, if there are any.
 #[tactic(auto, using(crate::proofs::Running::runs))]
-pub fn run_from(img: &[u8], at: usize, count: u64, what: Held) -> Option<Run>
-    ensures { RowsOf img.now what count at result }
+pub fn run_from(img: &[u8], rows: Rows, what: Held) -> Option<Run>
+    ensures { RowsOf img.now what rows.count rows.first result }
 {
-    let left = count.checked_sub(1)?;
-    let (inode, place) = read_number(img, at, u64::MAX).ok()?;
-    let next = pass_held(img, place, what).ok()?;
-    Some(Run {
-        inode,
-        place,
-        next,
-        left,
-    })
+    let count = rows.count.checked_sub(1)?;
+    let (inode, place) = Inode::read(img, rows.first).ok()?;
+    let first = pass_held(img, place, what).ok()?;
+    let rest = Rows { first, count };
+    Some(Run { inode, place, rest })
 }
 
 // The run at the first row of the list at `at`, its count first.
@@ -46,14 +43,14 @@ pub fn run_at(img: &[u8], at: usize, what: Held) -> Option<Run>
     ensures { ListOf img.now what at result }
 {
     let rows = rows_at(img, at, LAST_WORD);
-    run_from(img, rows.first, rows.count, what)
+    run_from(img, rows, what)
 }
 
 // Where what stands under the inode of a run ends.
-pub fn next_of(run: Option<Run>) -> usize
+pub fn next_of(run: Option<Run>) -> Option<usize>
     ensures { result ≡ next_of run }
 {
-    run.map_or(0, |run| run.next)
+    run.map(|run| run.rest.first)
 }
 
 // The place of what stands under an inode in a run, if the run is at it; the run is moved past it.
@@ -66,6 +63,6 @@ pub fn take_place(img: &[u8], run: &mut Option<Run>, inode: u64, what: Held) -> 
     if row.inode != inode {
         return None;
     }
-    *run = run_from(img, row.next, row.left, what);
+    *run = run_from(img, row.rest, what);
     Some(row.place)
 }

@@ -18,18 +18,11 @@ fn lower(best: Option<u64>, run: Option<Run>) -> Option<u64>
     let Some(run) = run else {
         return best;
     };
-    match best {
-        Some(inode) => {
-            if inode < run.inode {
-                return best;
-            }
-            Some(run.inode)
-        }
-        None => Some(run.inode),
-    }
+    Some(best.map_or(run.inode, |least| least.min(run.inode)))
 }
 
-// The least inode that stands first in a run.
+// The least inode that stands first in a run. A loop: `chain`, `flatten`, `map` and `min` each say what they give by what the one before gives, so a
+// proof would carry all four.
 fn least_inode(walk: &Walk) -> Option<u64>
     ensures { Least walk.now result }
 {
@@ -46,14 +39,16 @@ fn take_stack<'a>(img: &'a [u8], runs: &mut Runs, inode: u64) -> Step<'a>
     requires { Whole img.now runs.old }
     ensures { Taken img.now runs.old inode result runs.new }
 {
-    let end = next_of(runs.base);
+    let next = next_of(runs.base);
     let node = take_place(img, &mut runs.base, inode, Held::Node);
+    let end = node.and(next);
     let mut top = node.is_some();
     let mut places = bare_stack(node);
     let count = runs.count;
     for run in runs.layers[..count].iter_mut() {
         let place = take_place(img, run, inode, Held::Record);
         top = place.is_some();
+        // Tested, so that the stack isn't copied for a layer that has no record of the inode.
         if top {
             places = pushed(places, place);
         }

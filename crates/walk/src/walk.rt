@@ -12,11 +12,12 @@ pub struct Walk<'a> {
     ghost ready: { Ready img.now runs } by { Ready-prop img.now runs },
 }
 
-// The least inode and its stack, whether the topmost layer has it, and where its base node ends.
+// The least inode and its stack, whether the topmost layer has it, and where its base node ends. Where there is no layer, the base is the topmost.
 #[derive(Clone, Copy)]
 pub struct Step<'a> {
     pub inode: u64,
+    // A bool: who reads it asks only whether the topmost layer has the inode; the place is the stack's.
     pub top: bool,
     pub stack: Stack<'a>,
-    pub end: usize,
+    pub end: Option<usize>,
 }

@@ -68,6 +68,12 @@ module _ {K A : Type 0} (O : Order K) (key : Codec K) (value : Codec A) where
       let i = all-rising (Some e.0) l h.1 in
       (lift-above prev e l h.0.0.1 i.0, ((i.0, i.1.0), ((h.0.0.0, h.0.1), i.1.1)))
 
+module _ {K A : Type 0} (O : Order K) (key : Codec K) (value : Codec A) (most : ℕ) (limit : leb most edge ≡ true) where
+  -- rows that were read as a map are one
+  pub mapped-inv : (o : Option (Map O A)) (q : List ℕ) {m : Map O A} {r : List ℕ} → mapped O key value most limit o q ≡ got m r → (o ≡ Some m) × (q ≡ r)
+  mapped-inv None q e = never-got e
+  mapped-inv (Some n) q e = (cc, cc)
+
 module _ {K A : Type 0} (O : Order K) (key : Codec K) (value : Codec A) (one_key : OneForm key) (one_value : OneForm value) where
   pub row-one : (prev : Option K) → OneForm (row O key value prev)
   row-one prev = then-one (only (after O prev) key) value (only-one (after O prev) key one_key) one_value
@@ -78,16 +84,12 @@ module _ {K A : Type 0} (O : Order K) (key : Codec K) (value : Codec A) (one_key
         tagged-one (number_to most limit) length (chain (row O key value) (onto O key value) None) (λ n l h. h.0) (number_to-one most limit)
         (chain-one (row O key value) (onto O key value) row-one None)
 
-    mapped-inv : (o : Option (Map O A)) (q : List ℕ) {m : Map O A} {r : List ℕ} → mapped O key value most limit o q ≡ got m r → (o ≡ Some m) × (q ≡ r)
-    mapped-inv None q e = never-got e
-    mapped-inv (Some n) q e = (cc, cc)
-
     pub rising-forth : (s : List ℕ) (m : Map O A) (r : List ℕ) → rising-read O key value most limit s ≡ got m r →
         (s ≡ (rows O key value most limit).write m.rows ++ r) × FitsMap O key value most limit m
     unfolding rising-read
     rising-forth s m r e =
         let i = bind_inv ((rows O key value most limit).read s) (λ l r. mapped O key value most limit (as_map O l) r) e in
-        let j = mapped-inv (as_map O i.0) i.1 i.3 in
+        let j = mapped-inv O key value most limit (as_map O i.0) i.1 i.3 in
         let f = rows-one.forth s i.0 i.1 i.2 in
         let p : i.0 ≡ m.rows = sym (rows-as_map O i.0 m j.0) in
         subst (λ (l : List (K × A)). (s ≡ (rows O key value most limit).write l ++ r) × ((length l ≤ most) × Every (FitsRow O key value) l)) p

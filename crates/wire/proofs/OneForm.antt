@@ -3,7 +3,7 @@
 use Prim.Native.Nat.{ℕ, zero, suc, ◌≤◌}
 use Rattle.std.specs.Prelude.{◌≡◌, Bool, true, false, cond, leb, ltb, length, take, drop, None, Option, Some}
 use Rattle.std.proofs.Math.Path.{refl, ap, subst}
-use Rattle.std.proofs.Common.{sym, ◌∙◌, arith, take-append-drop, length-take-le, leb-true, ltb-true}
+use Rattle.std.proofs.Common.{sym, ◌∙◌, take-append-drop, length-take-le, leb-true, ltb-true}
 use mathlib.Core.List.{List, [], ◌∷◌, ◌++◌, append_assoc}
 use Rattle.wire.specs.Parse.{Parsed, got, bind, check, never-got, bind_inv, check_inv}
 use Rattle.wire.specs.Codec.{Codec, OneForm, Bytes}
@@ -25,7 +25,7 @@ are-bytes (b ∷ s) e = go (ltb b 256) refl e (are-bytes s)
   where
     go : (t : Bool) → ltb b 256 ≡ t → cond t (all_bytes s) false ≡ true → (all_bytes s ≡ true → Bytes s) → Bytes (b ∷ s)
     go true h e ih = (ltb-true b 256 h, ih e)
-    go false h e ih = absurd (let z : ◌≡◌ {A = ℕ} 0 1 = cc in omega arith)
+    go false h e ih = cc
 
 pub bytes-forth : (n : ℕ) (s a r : List ℕ) → bytes_read n s ≡ got a r → (s ≡ a ++ r) × ((length a ≡ n) × Bytes a)
 bytes-forth n s a r e =

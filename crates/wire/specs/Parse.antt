@@ -1,6 +1,5 @@
 -- Reading the bytes that are left: what is read with what is left after it, or the fault of the first field that is not right.
 use Rattle.std.specs.Prelude.{ℕ, ◌≡◌, refl, Bool, true, false, List, ◌++◌}
-use Rattle.std.proofs.Common.{arith}
 use Rattle.wire.specs.declared.fault.Fault.{Fault}
 use Rattle.wire.specs.declared.fault.Fault.TheVariants.{Ended, Malformed}
 
@@ -22,7 +21,7 @@ check f true p = p
 check f false p = fault f
 
 pub never-got : {A B : Type 0} {f : Fault} {b : A} {q : List ℕ} → ◌≡◌ {A = Parsed A} (fault f) (got b q) → B
-never-got e = absurd (let z : ◌≡◌ {A = ℕ} 0 1 = cc in omega arith)
+never-got e = cc
 
 pub bind_inv : {A B : Type 0} (p : Parsed A) (k : A → List ℕ → Parsed B) {b : B} {q : List ℕ} → bind p k ≡ got b q
     → (a : A) × (r : List ℕ) × (p ≡ got a r) × (k a r ≡ got b q)

@@ -1,9 +1,8 @@
 -- The laws of rows in rising order.
-use Rattle.std.specs.Prelude.{◌≡◌, ℕ, None, Option, Some}
+use Rattle.std.specs.Prelude.{◌≡◌, None, Option, Some}
 use Rattle.std.proofs.Math.Path.{refl}
 use mathlib.Core.List.{List, [], ◌∷◌}
 use mathlib.Core.HLevel.{Unit-prop, ×_prop}
-use Rattle.std.proofs.Common.{arith}
 use Rattle.std.specs.declared.cmp.Ordering.{Ordering}
 use Rattle.std.specs.declared.cmp.Ordering.TheVariants.{Less, Equal, Greater}
 use Rattle.wire.specs.Order.{Order, Ordering-set}
@@ -27,13 +26,13 @@ swap Equal Greater a b x n = refl
 swap Equal Equal a b x n = absurd (n refl refl)
 
 pub never-lt : (c : Ordering) → c ≡ Less → c ≡ Equal → ⊥
-never-lt c p q = let z : ◌≡◌ {A = ℕ} 0 1 = cc in omega arith
+never-lt c p q = cc
 
 pub never-lg : (c : Ordering) → c ≡ Less → c ≡ Greater → ⊥
-never-lg c p q = let z : ◌≡◌ {A = ℕ} 0 1 = cc in omega arith
+never-lg c p q = cc
 
 pub never-gt : (c : Ordering) → c ≡ Greater → c ≡ Equal → ⊥
-never-gt c p q = let z : ◌≡◌ {A = ℕ} 0 1 = cc in omega arith
+never-gt c p q = cc
 
 module _ {K : Type 0} (O : Order K) where
   apart : (j k i : K) → (O.cmp k i ≡ Equal → ⊥) → O.cmp j i ≡ Equal → O.cmp j k ≡ Equal → ⊥

@@ -1,4 +1,6 @@
-// Numbers: seven bits a byte, low group first, the high bit on all bytes but the last, in the shortest form.
+// Numbers: seven bits a byte, low group first, the high bit on all bytes but the last, in the shortest form. Every
+// reader takes the bytes and a place, and answers the value and the place after it. No struct of both: each call would have to move it on, also
+// where it fails.
 ghost use Rattle.std.specs.Prelude.{◌<◌, ◌≤◌, length, ◌≡◌};
 ghost use Rattle.wire.specs.Number.{number_bytes, number_read, number-rest, tenth};
 ghost use Rattle.wire.specs.Reading.{Reads, Tenth, judged_number, last_group};
@@ -14,18 +16,18 @@ const TENTH: u64 = 0x8000_0000_0000_0000;
 pub fn read_number(s: &[u8], at: usize, most: u64) -> Result<(u64, usize), Fault>
     ensures { Reads s.now (number_read most) at result }
 {
-    if s.len() <= at {
+    let Some(byte) = s.get(at) else {
         return Err(Fault::Ended);
-    }
-    let first = s[at] as u64;
+    };
+    let first = *byte as u64;
     if first < 128 {
         return judged(first, most, at + 1);
     }
     long_number(s, at + 1, first - 128, most)
 }
 
-// A number from its second byte on, which is at `at`; its first group is `low`. The loop's end is no constant, so that the compiler leaves it
-// a loop, and this is small enough to be compiled into every reader.
+// A number from its second byte on, which is at `at`; its first group is `low`. By place, since a place is answered. The loop's end is no constant, so
+// that the compiler leaves it a loop, and this is small enough to be compiled into every reader.
 fn long_number(s: &[u8], at: usize, low: u64, most: u64) -> Result<(u64, usize), Fault>
     requires { (low < 128) × (at ≤ length s.now) }
     ensures { Reads s.now (number-rest 128 low most 8) at result }
@@ -44,7 +46,8 @@ fn long_number(s: &[u8], at: usize, low: u64, most: u64) -> Result<(u64, usize),
     tenth_group(s, end, sum, most)
 }
 
-// The place of the tenth byte of a number whose second is at `at`, or the end of the bytes if that comes first.
+// The place of the tenth byte of a number whose second is at `at`, or the end of the bytes if that comes first. No `min`: with it the pass over an
+// image takes two percent more instructions.
 fn before_tenth(s: &[u8], at: usize) -> usize
     requires { at ≤ length s.now }
     ensures { Tenth s.now at result }
@@ -60,13 +63,11 @@ fn tenth_group(s: &[u8], at: usize, sum: u64, most: u64) -> Result<(u64, usize),
     requires { sum < tenth }
     ensures { Reads s.now (number-rest tenth sum most 0) at result }
 {
-    if s.len() <= at {
-        return Err(Fault::Ended);
+    match s.get(at) {
+        Some(1) => judged(TENTH + sum, most, at + 1),
+        Some(_) => Err(Fault::Malformed),
+        None => Err(Fault::Ended),
     }
-    if s[at] == 1 {
-        return judged(TENTH + sum, most, at + 1);
-    }
-    Err(Fault::Malformed)
 }
 
 // The answer where the last group of a number of two bytes or more makes it `value`.

@@ -6,6 +6,7 @@ ghost use Rattle.wire.specs.Reading.{part as part_of};
 use crate::part::Part;
 use std::cmp::Ordering;
 
+// A function of its own, so that the contract speaks of this order and not of the library's.
 pub fn compare(a: &[u8], b: &[u8]) -> Ordering
     ensures { result ≡ by_bytes.cmp a.now b.now }
 {

@@ -19,6 +19,14 @@ pub struct Time {
     pub nanos: u32,
 }
 
+impl Time {
+    // The start of 1970.
+    pub const EPOCH: Time = Time {
+        seconds: 0,
+        nanos: 0,
+    };
+}
+
 // Seconds and nanoseconds, a point between them.
 impl fmt::Display for Time {
     fn fmt<W: fmt::Write>(&self, f: &mut fmt::Formatter<W>) -> fmt::Result {

@@ -1,14 +1,14 @@
-// Fields written: one that is there, and one that is there, or not.
+// Fields written: one that is always there, and one that may be missing.
 ghost use Rattle.std.specs.Option.{option_map};
 ghost use Rattle.wire.specs.Combinators.{opt_write};
 ghost use Rattle.wire.specs.Put.{Put};
 ghost use Rattle.image.specs.Masks.{maybe};
 
-use image::field::{Inode, Moment, Size, Target, Word, XattrValue};
+use crate::write::put_text_part;
+use image::field::{Inode, Moment, Size, Target, Word};
 use nodes::field::ReadField;
 use wire::number::put_number;
 use wire::part::Part;
-use wire::text::put_text;
 use wire::time::{Time, put_time};
 
 // A field that is written by value.
@@ -44,13 +44,7 @@ impl PutField for Moment {
 
 impl PutField for Target {
     fn put(buf: &mut [u8], at: usize, img: &[u8], value: Part) -> usize {
-        put_text(buf, at, value.of(img))
-    }
-}
-
-impl PutField for XattrValue {
-    fn put(buf: &mut [u8], at: usize, img: &[u8], value: Part) -> usize {
-        put_text(buf, at, value.of(img))
+        put_text_part(buf, at, img, value)
     }
 }
 

@@ -1,4 +1,5 @@
-// Writers of fields, entries, batch heads and the end of an image; they also measure.
+// Writers of fields, attributes, batch heads and the end of an image. Each answers the place after what it writes; with an empty buffer it
+// measures.
 #![tactic(auto)]
 
 pub mod batch;

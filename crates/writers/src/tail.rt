@@ -1,5 +1,5 @@
 // What stands after live, at the end of an image, by value.
-ghost use Rattle.std.specs.Prelude.{◌≡◌};
+ghost use Rattle.std.specs.Prelude.{◌≡◌, None};
 ghost use Rattle.wire.specs.Reading.{Reads, meant};
 ghost use Rattle.wire.specs.Put.{Put};
 ghost use Rattle.survey.specs.Reasons.{request_number};
@@ -7,7 +7,7 @@ ghost use Rattle.writers.specs.Tails.{tail as tailCodec, tail_meant};
 
 use image::field::{Inode, Word};
 use nodes::field::ReadField;
-use survey::reason::Reason;
+use survey::reason::{LAST_REASON, Reason};
 use wire::fault::Fault;
 use wire::number::{put_number, read_number};
 
@@ -20,6 +20,20 @@ pub struct Tail {
     pub request: Option<Reason>,
 }
 
+impl Tail {
+    // The tail of an image with nothing staged and no request.
+    pub fn unstaged(next_id: u64) -> Tail
+        ensures { (result.next_id ≡ next_id) × (result.bytes ≡ 0) × (result.operations ≡ 0) × (result.request ≡ None) }
+    {
+        Tail {
+            next_id,
+            bytes: 0,
+            operations: 0,
+            request: None,
+        }
+    }
+}
+
 // The tail at `at`, and the place after it.
 #[tactic(auto, using(wire::proofs::Readers::times, survey::proofs::Numbered::request_of))]
 pub fn read_tail(img: &[u8], at: usize) -> Result<(Tail, usize), Fault>
@@ -28,7 +42,7 @@ pub fn read_tail(img: &[u8], at: usize) -> Result<(Tail, usize), Fault>
     let (next_id, named) = Inode::read(img, at)?;
     let (bytes, sized) = Word::read(img, named)?;
     let (operations, counted) = Word::read(img, sized)?;
-    let (number, next) = read_number(img, counted, 5)?;
+    let (number, next) = read_number(img, counted, LAST_REASON)?;
     let tail = Tail {
         next_id,
         bytes,
@@ -52,8 +66,5 @@ pub fn put_tail(buf: &mut [u8], at: usize, tail: Tail) -> usize
 fn request_number(request: Option<Reason>) -> u64
     ensures { result ≡ request_number request }
 {
-    match request {
-        Some(reason) => reason.number(),
-        None => 0,
-    }
+    request.map_or(0, Reason::number)
 }

@@ -7,7 +7,7 @@ ghost use Rattle.rules.specs.ReadCalls.{text_of, get_xattr, has_xattr};
 ghost use Rattle.nodes.specs.Options.{text_of as textMeant};
 ghost use Rattle.layers.specs.Answered.{answered};
 
-use deltas::delta::{EntryDelta, attr_delta};
+use deltas::delta::EntryDelta;
 use image::field::XattrValue;
 use image::name::Under;
 use lookup::list::NameList;
@@ -37,7 +37,7 @@ pub fn has_xattr(img: &[u8], ino: u64, name: &[u8]) -> Result<bool, Refusal>
 }
 
 // Where the value of an attribute stands.
-fn value_of(img: &[u8], ino: u64, name: &[u8]) -> Result<Option<Part>, Refusal>
+pub fn value_of(img: &[u8], ino: u64, name: &[u8]) -> Result<Option<Part>, Refusal>
     ensures { answered (textMeant img.now) result ≡ get_xattr usual img.now ino name.now }
 {
     let stack = open_named(img, ino, name)?;
@@ -63,7 +63,7 @@ impl Question for Attribute<'_> {
         let EntryDelta::Node(delta) = entry else {
             return ControlFlow::Break(None);
         };
-        let Some(list) = attr_delta(delta).xattrs else {
+        let Some(list) = delta.attr_delta().xattrs else {
             return ControlFlow::Continue(());
         };
         let changes = NameList {

@@ -1,12 +1,13 @@
+use mathlib.Core.Logic.{inl, inr}
 use Rattle.attrs.proofs.Others.{other-device}
 use borrow.Enum.Refused.{opened}
 use Rattle.attrs.proofs.attr.delta_rdev.Goals as goal
 
 pub returns-in-CharDevice : goal.returns-in-CharDevice
-returns-in-CharDevice c = λ img. rw c.in-CharDevice.is
+returns-in-CharDevice c = λ img. elim c.in-CharDevice.is [ inl e ↦ rw e | inr e ↦ rw e ]
 
-pub returns-in-BlockDevice : goal.returns-in-BlockDevice
-returns-in-BlockDevice c = λ img. rw c.in-BlockDevice.is
+pub returns-in-CharDevice-2 : goal.returns-in-CharDevice-2
+returns-in-CharDevice-2 c = λ img. elim c.in-CharDevice.is [ inl e ↦ rw e | inr e ↦ rw e ]
 
 pub returns-in_default : goal.returns-in_default
 returns-in_default c = λ img. other-device img c.args.delta (opened c.in_default.in_default-own.keys3)

@@ -5,13 +5,13 @@ pub returns-in_err-kind : goal.returns-in_err-kind
 returns-in_err-kind c = kept-unkind c.read_file_type.ensures c.in_err-kind.was
 
 pub returns-in_err-linked : goal.returns-in_err-linked
-returns-in_err-linked c = kept-unperm c.read_file_type.ensures c.in_ok-kind.was c.read_number.ensures c.in_err-linked.was
+returns-in_err-linked c = kept-unperm c.read_file_type.ensures c.in_ok-kind.was c.pass.ensures c.in_err-linked.was
 
 pub returns-in_err-links : goal.returns-in_err-links
 returns-in_err-links c =
-    kept-unlinked c.read_file_type.ensures c.in_ok-kind.was c.read_number.ensures c.in_ok-linked.was c.read_number-2.ensures c.in_err-links.was
+    kept-unlinked c.read_file_type.ensures c.in_ok-kind.was c.pass.ensures c.in_ok-linked.was c.read.ensures.reads c.in_err-links.was
 
 pub returns : goal.returns
 returns c =
-    kept-told c.read_file_type.ensures c.in_ok-kind.was c.read_number.ensures c.in_ok-linked.was c.read_number-2.ensures c.in_ok-links.was
+    kept-told c.read_file_type.ensures c.in_ok-kind.was c.pass.ensures c.in_ok-linked.was c.read.ensures.reads c.in_ok-links.was
     c.is_kept.ensures

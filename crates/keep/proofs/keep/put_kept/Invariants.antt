@@ -1,8 +1,5 @@
-use Prim.Native.Nat.{◌-◌}
-use Rattle.keep.specs.Keeps.{leads_in}
-use Rattle.keep.proofs.Keeping.{Keeping}
+use Rattle.keep.proofs.Keeping.{KeepingRows}
 use Rattle.keep.proofs.keep.put_kept.Given as goal
 
-abbrev pub invariant-loop : goal.invariant-loop
-invariant-loop l =
-    Keeping l.list.img.now l.list.what (leads_in l.initial.names) l.initial.buf l.at l.initial.here l.end l.here (l.end - l.counter) l.names l.buf l.kept
+abbrev pub invariant-loop-start : goal.invariant-loop-start
+invariant-loop-start g l = KeepingRows l.sources l.list l.initial.buf l.at l.initial.start-iterator l.start-iterator l.names l.buf l.kept

@@ -1,10 +1,6 @@
-use mathlib.Core.Path.{refl}
 use native.Mathlib.Omega.{arith}
-use Rattle.lines.proofs.Spelling.{spelled_none, spelled-more, spelled-next, spelled-full, put_same}
+use Rattle.lines.proofs.Spelling.{spelled-more, spelled-next, spelled-full, put_same}
 use Rattle.lines.proofs.digit.put_digits.Goals as goal
-
-pub loop-i-init : goal.loop-i-init
-loop-i-init c = (refl, spelled_none refl)
 
 pub returns-then-left-eq0 : goal.returns-then-left-eq0
 returns-then-left-eq0 c =

@@ -1,6 +1,5 @@
-use mathlib.Core.Path.{refl}
 use Rattle.meld.proofs.Merging.{rows-from}
 use Rattle.meld.proofs.row.all_rows.Goals as goal
 
 pub returns : goal.returns
-returns c = rows-from _ c.rows_at-rows.ensures refl refl
+returns c = rows-from _ c.rows_at-rows.ensures

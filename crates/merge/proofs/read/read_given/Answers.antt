@@ -16,8 +16,8 @@ returns-in_err-inode-in-Inode c =
 
 pub returns-in_ok-inode-in-Inode : goal.returns-in_ok-inode-in-Inode
 returns-in_ok-inode-in-Inode c =
-    let g : Option Given = Some (record { inode = c.in_ok-inode-in-Inode.inode; value = c.no_value-value.result }) in
-    rw c.in-Inode.is (given-made (choice U.Inode) c.read.ensures g c.in_ok-inode-in-Inode.was (rw c.no_value-value.ensures.1 refl))
+    let g : Option Given = Some (record { inode = c.in_ok-inode-in-Inode.inode; value = record { start = 0; «length» = 0 } }) in
+    rw c.in-Inode.is (given-made (choice U.Inode) c.read.ensures g c.in_ok-inode-in-Inode.was refl)
 
 pub returns-in_err-value-in-Value : goal.returns-in_err-value-in-Value
 returns-in_err-value-in-Value c =

@@ -1,6 +1,5 @@
 use Rattle.normalize.proofs.Recording.{copied}
 use Rattle.normalize.proofs.record.put_record.Goals as goal
 
--- src/record.rt:74:1
 pub returns : goal.returns
 returns c = copied c.pass_record.ensures c.unwrap_or-end.ensures c.put_between.ensures

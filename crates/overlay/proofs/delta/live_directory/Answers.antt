@@ -1,5 +1,7 @@
 use Rattle.overlay.proofs.LiveDirectories.{lives_at}
 use Rattle.overlay.proofs.delta.live_directory.Goals as goal
 
-pub returns-in-Ok : goal.returns-in-Ok
-returns-in-Ok c = rw (c.in-Some.is, c.directory_of.ensures) (lives_at c.read_entry_delta.ensures c.in-Ok.is)
+pub returns : goal.returns
+returns c =
+    let i = c.in-Ok-Node-Directory-default in
+    rw (c.in-Some.is, c.into.ensures) (rw (i.field-0-0-is, i.field-0-0-0-is) at (lives_at c.read_entry_delta.ensures i.is))

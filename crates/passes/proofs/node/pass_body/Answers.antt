@@ -1,4 +1,5 @@
 use mathlib.Core.Path.{refl}
+use mathlib.Core.Logic.{inl, inr}
 use native.Mathlib.Omega.{arith}
 use Rattle.image.proofs.Passing.{passes}
 use Rattle.passes.proofs.node.pass_body.Goals as goal
@@ -15,14 +16,16 @@ returns-in-RegularFile c = rw c.in-RegularFile.is c.pass-in-RegularFile.ensures
 pub returns-in-Symlink : goal.returns-in-Symlink
 returns-in-Symlink c = rw c.in-Symlink.is c.pass-in-Symlink.ensures
 
-pub returns-in-NamedPipe : goal.returns-in-NamedPipe
-returns-in-NamedPipe c = rw c.in-NamedPipe.is (record { same = refl; within = c.requires })
-
 pub returns-in-CharDevice : goal.returns-in-CharDevice
-returns-in-CharDevice c = rw c.in-CharDevice.is c.pass-in-CharDevice.ensures
+returns-in-CharDevice c =
+    elim c.in-CharDevice.is [
+      | inl e ↦ rw e c.pass-in-CharDevice.ensures
+      | inr e ↦ rw e c.pass-in-CharDevice.ensures
+    ]
 
-pub returns-in-BlockDevice : goal.returns-in-BlockDevice
-returns-in-BlockDevice c = rw c.in-BlockDevice.is c.pass-in-BlockDevice.ensures
-
-pub returns-in-Socket : goal.returns-in-Socket
-returns-in-Socket c = rw c.in-Socket.is (record { same = refl; within = c.requires })
+pub returns-in-NamedPipe : goal.returns-in-NamedPipe
+returns-in-NamedPipe c =
+    elim c.in-NamedPipe.is [
+      | inl e ↦ rw e (record { same = refl; within = c.requires })
+      | inr e ↦ rw e (record { same = refl; within = c.requires })
+    ]

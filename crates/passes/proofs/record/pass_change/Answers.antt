@@ -1,3 +1,4 @@
+use mathlib.Core.Logic.{inl, inr}
 use Rattle.passes.proofs.record.pass_change.Goals as goal
 
 pub returns-in-Directory : goal.returns-in-Directory
@@ -10,13 +11,10 @@ pub returns-in-Symlink : goal.returns-in-Symlink
 returns-in-Symlink c = rw c.in-Symlink.is c.pass_maybe-in-Symlink.ensures
 
 pub returns-in-NamedPipe : goal.returns-in-NamedPipe
-returns-in-NamedPipe c = rw c.in-NamedPipe.is c.pass.ensures
-
-pub returns-in-CharDevice : goal.returns-in-CharDevice
-returns-in-CharDevice c = rw c.in-CharDevice.is c.pass-in-CharDevice.ensures
-
-pub returns-in-BlockDevice : goal.returns-in-BlockDevice
-returns-in-BlockDevice c = rw c.in-BlockDevice.is c.pass-in-BlockDevice.ensures
-
-pub returns-in-Socket : goal.returns-in-Socket
-returns-in-Socket c = rw c.in-Socket.is c.pass-in-Socket.ensures
+returns-in-NamedPipe c =
+    elim c.in-NamedPipe.is [
+      | inl e ↦ rw e c.pass.ensures
+      | inr (inl e) ↦ rw e c.pass.ensures
+      | inr (inr (inl e)) ↦ rw e c.pass.ensures
+      | inr (inr (inr e)) ↦ rw e c.pass.ensures
+    ]

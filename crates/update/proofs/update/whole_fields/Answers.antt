@@ -1,11 +1,9 @@
-use Rattle.update.proofs.Updating.{fields-broken, fields-longer, fields-whole}
+use Rattle.meld.proofs.Merging.{stopped, gave}
+use Rattle.update.proofs.Updating.{fields-broken, fields-if}
 use Rattle.update.proofs.update.whole_fields.Goals as goal
 
-pub returns-in_default : goal.returns-in_default
-returns-in_default c = fields-broken c.read_attr_delta.ensures c.in_default.is
-
-pub returns-then-left_over : goal.returns-then-left_over
-returns-then-left_over c = fields-longer c.read_attr_delta.ensures c.in-Ok.is c.if-left_over.true
+pub returns-in_err-fields : goal.returns-in_err-fields
+returns-in_err-fields c = rw c.from_residual.ensures (fields-broken c.read_attr_delta.ensures (stopped _ c.ok.ensures.value c.in_err-fields.was).1)
 
 pub returns : goal.returns
-returns c = fields-whole c.read_attr_delta.ensures c.in-Ok.is c.if-left_over.false
+returns c = rw c.then_some.ensures (fields-if c.read_attr_delta.ensures (gave _ c.ok.ensures.value c.in_ok-fields.was))

@@ -1,15 +1,9 @@
-use mathlib.Core.Path.{refl, sym}
+use mathlib.Core.Path.{refl}
 use native.Mathlib.Omega.{arith}
 use Rattle.std.proofs.lemmas.List.{length-take-le}
 use Rattle.walk.proofs.Opening.{opening-start, starts-head, starts-plain, opening-more, opening-all}
 use Rattle.walk.proofs.open.open_layers.Goals as goal
 use Rattle.walk.proofs.open.open_layers.Goals.{then-i-batches, else-i-batches}
-
-pub slice_bounds-layers-end : goal.slice_bounds-layers-end
-slice_bounds-layers-end c = c.requires
-
-pub slice_bounds-layer-items-end : goal.slice_bounds-layer-items-end
-slice_bounds-layer-items-end c = sym (length-take-le c.args.n _ c.requires)
 
 pub loop-i-init : goal.loop-i-init
 loop-i-init c = opening-start c.run_at-base.ensures (length-take-le c.args.n _ c.requires)

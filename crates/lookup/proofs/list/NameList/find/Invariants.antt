@@ -1,10 +1,8 @@
-use Rattle.std.specs.Prelude.{Option}
-use Prim.Native.Nat.{◌-◌}
-use Rattle.image.specs.Under.{UnderName}
-use Rattle.lookup.proofs.Searching.{Seeks}
+use Rattle.wire.specs.Orders.{by_bytes}
+use Rattle.wire.specs.Maps.{get}
+use Rattle.lookup.specs.Search.{list_in}
+use Rattle.lookup.proofs.Searching.{Sought}
 use Rattle.lookup.proofs.list.NameList.find.Given as goal
 
-abbrev pub invariant-loop : goal.invariant-loop
-invariant-loop l =
-    (o : Option (UnderName l.self.what)) → Seeks l.self.img.now l.self.what l.name l.initial.here l.end o
-    → Seeks l.self.img.now l.self.what l.name l.here (l.end - l.counter) o
+abbrev pub invariant-loop-row : goal.invariant-loop-row
+invariant-loop-row l = Sought l.self.img.now l.self.what l.name (get by_bytes l.name (list_in l.self)) l.row-iterator

@@ -1,9 +1,0 @@
-use mathlib.Core.Path.{ap}
-use mathlib.Core.List.{List}
-use Prim.Native.Nat.{ℕ}
-use lib.ListN.{get_or}
-use Rattle.attrs.proofs.Rows.{row_at}
-use Rattle.attrs.proofs.attr.initial_nlink.Goals as goal
-
-pub returns : goal.returns
-returns c = rw c.number-row.ensures.0 (ap (λ (r : List ℕ). get_or r 1 0) (row_at c.args.file_type))

@@ -1,2 +1,0 @@
--- Laws that the proofs of more than one function use.
-mod Replying

@@ -1,4 +1,0 @@
-use Rattle.lines.proofs.digit.put_octal.Goals as goal
-
-pub returns : goal.returns
-returns c = c.put_digits.ensures
