@@ -81,7 +81,8 @@ module _ {img old : List ℕ} (lent : length old ≡ 65536) {buf line : List ℕ
           ap (λ (t : List ℕ). heading ++ t) (pieces-lines s.base.rows r bytes (rw e d.2) p)
 
   -- or only the refusal
-  pub whole-refused : {new : List ℕ} {e : Refusal} → OpensListing img old (Err e) new → Put buf 0 (refusal (number_of e)) n line → take n line ≡ listing_bytes img
+  pub whole-refused : {new : List ℕ} {e : Refusal} → OpensListing img old (Err e) new → Put buf 0 (refusal (number_of e)) n line
+      → take n line ≡ listing_bytes img
   whole-refused {new} {e} o h = put-start h (omega (arith, refusal-short (number_of e))) ∙ go (snapshot_of 65536 img) (rw lent at o.opens)
     where
       go : (a : Answer Store) → OpensTo a (Err e) new → refusal (number_of e) ≡ listing a

@@ -133,7 +133,8 @@ module _ {img : List ℕ} {p : Sections} {s : Store} (w : Stands img p s) (depth
           changes-refused (Call.freeze limits time) w
           (rw (lt-leb 1000000000 time.nanos ok, full_is, h, drop_of_length-le s.live.rows {i = 0} (omega (arith, live-count, z))))
 
-      module _ (some-live : live.count ≡ 0 → ⊥) {u : Result (Tail × ℕ) Fault} (r : Reads img tail.read p.tail (meant tail_meant u)) {v : Tail × ℕ} (z : u ≡ Ok v) where
+      module _ (some-live : live.count ≡ 0 → ⊥) {u : Result (Tail × ℕ) Fault} (r : Reads img tail.read p.tail (meant tail_meant u)) {v : Tail × ℕ}
+          (z : u ≡ Ok v) where
         abbrev staged : Tail
         staged = v.0
 

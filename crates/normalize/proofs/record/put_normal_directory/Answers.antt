@@ -12,5 +12,6 @@ returns-then-is_directory c =
 pub returns : goal.returns
 returns c =
     normal-none c.args.below c.requires c.put_between-head.ensures
-    (ap is_directory (sym c.decided.ensures) ∙ sym (c.eq-is_directory.ensures ∙ directory-eq c.decided.result) ∙ c.if-is_directory.false) c.put_between-next.ensures
+    (ap is_directory (sym c.decided.ensures) ∙ sym (c.eq-is_directory.ensures ∙ directory-eq c.decided.result) ∙ c.if-is_directory.false)
+    c.put_between-next.ensures
     c.put_number.ensures
