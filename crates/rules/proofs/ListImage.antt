@@ -26,10 +26,7 @@ use Rattle.rules.proofs.ResultImage.{result_fits}
 
 -- document 01's test of 5 is one
 pub lent_fits : (target : ℕ) (c : Call) → FitsCall c → FitsMade (lent target c)
-lent_fits target c h = record {
-  call = h;
-  room = λ s e. leb-true (length (write_image s)) 65536 (and_parts (leb (length (write_image s)) 65536) (leb (length (write_image s)) target) e).0;
-}
+lent_fits target c h = record { call = h; room = λ s e. leb-true (length (write_image s)) 65536 (and_parts (leb (length (write_image s)) 65536) (leb (length (write_image s)) target) e).0 }
 
 module _ (initial : Initial) (ok : FitsInitial initial) where
   next_fits : (m : Made) (s : Store) → FitsMade m → FitsStore s → FitsStore (next initial m s)

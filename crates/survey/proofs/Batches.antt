@@ -26,8 +26,7 @@ use Rattle.survey.specs.Gathering.{Bare, Pushed, Gathers, GathersQueue}
 use Rattle.passes.specs.declared.inode.Held.TheVariants as H
 use Rattle.survey.specs.declared.batch.InodeLayerStack.{InodeLayerStack}
 use Rattle.survey.specs.declared.batch.Batches.{Batches}
-use Rattle.image.proofs.Passing.{ends-read, ends-stop, ends-chosen, ends-unchosen, ends-got, ends-then}
-use Rattle.image.proofs.Passing.{Passed, passed_start, passed_on, passed-unkeyed, passed-stop, passed-last, passed-all}
+use Rattle.image.proofs.Passing.{ends-read, ends-stop, ends-chosen, ends-unchosen, ends-got, ends-then, Passed, passed_start, passed_on, passed-unkeyed, passed-stop, passed-last, passed-all}
 use Rattle.passes.proofs.Inodes.{key-read}
 
 -- one batch more
@@ -133,8 +132,7 @@ module _ {img : List ℕ} {sought at : ℕ} {base : Option ℕ} {o : Result Rows
   pub queue-stop : {f : Fault} {r : Result (Batches × ℕ) Fault} → o ≡ Err f → r ≡ Err f → GathersQueue img sought at base r
   queue-stop d e = rw e (record { ends = ends-unchosen (λ n s. rows_from by_number inode batch_rest n None s) h (ap counted d) refl; gathered = tt })
 
-  pub queue-all : {list : Rows} {r : Result (Batches × ℕ) Fault} → o ≡ Ok list → Gathers img sought list.first list.count base r
-      → GathersQueue img sought at base r
+  pub queue-all : {list : Rows} {r : Result (Batches × ℕ) Fault} → o ≡ Ok list → Gathers img sought list.first list.count base r → GathersQueue img sought at base r
   queue-all {list} {r} d g = go r g
     where
       go : (r : Result (Batches × ℕ) Fault) → Gathers img sought list.first list.count base r → GathersQueue img sought at base r

@@ -220,8 +220,7 @@ survey-holds {img} {i} {r} {s} w e =
       node_held = rw w.node (list-holds by_number inode node img i inode-one node-one 0 (omega arith) x.at_base);
       records_held =
           rw w.deltas
-          (hold-last img layer_record.read (queue_places img i r.sections.batches) (batch_records i s.batches)
-          (place_in by_number inode layer_record img i r.sections.live)
+          (hold-last img layer_record.read (queue_places img i r.sections.batches) (batch_records i s.batches) (place_in by_number inode layer_record img i r.sections.live)
           (get by_number i s.live) (queue-holds img i r.sections.batches w.base.within eb)
           (list-holds by_number inode layer_record img i inode-one layer_record-one r.sections.live w.batches.within el));
     }

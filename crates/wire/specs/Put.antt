@@ -14,6 +14,5 @@ pub record Put (old : List ℕ) (at : ℕ) (bytes : List ℕ) (next : ℕ) (new 
 -- What writes these n rows into every buffer, wherever it begins, has written the list of them, its count first.
 abbrev pub PutsCounted : (MutBor (List ℕ) → ℕ → Written → MutBor (List ℕ) → Type 0) → List ℕ → ℕ → ℕ → List ℕ → Type 0
 PutsCounted Puts old at next new =
-    (n : ℕ) (bytes : List ℕ)
-    → ((l : MutBor (List ℕ)) (q : ℕ) (w : Written) (m : MutBor (List ℕ)) → Puts l q w m → Put l.now q bytes w.end m.now × (w.count ≡ n))
+    (n : ℕ) (bytes : List ℕ) → ((l : MutBor (List ℕ)) (q : ℕ) (w : Written) (m : MutBor (List ℕ)) → Puts l q w m → Put l.now q bytes w.end m.now × (w.count ≡ n))
     → Put old at (number_bytes n ++ bytes) next new

@@ -7,8 +7,7 @@ returns-in_err-count c = from-none _ c.in_err-count.ensures c.from_residual.ensu
 
 pub returns-in_err-inode : goal.returns-in_err-inode
 returns-in_err-inode c =
-    from-unread _ _ c.in_ok-count.ensures (rw (read-plain c.read.result) at c.read.ensures.reads) (sym c.ok.ensures.value ∙ c.in_err-inode.was)
-    c.from_residual-in_err-inode.ensures
+    from-unread _ _ c.in_ok-count.ensures (rw (read-plain c.read.result) at c.read.ensures.reads) (sym c.ok.ensures.value ∙ c.in_err-inode.was) c.from_residual-in_err-inode.ensures
 
 pub returns-in_err-first : goal.returns-in_err-first
 returns-in_err-first c =
