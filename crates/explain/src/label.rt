@@ -13,6 +13,11 @@ pub struct Label {
     pub place: Option<usize>,
 }
 
+// The labels of any bytes; none of those that are no valid image.
+pub fn label_layers(img: &[u8], ino: u64) -> [Option<Label>; MOST_LAYERS] {
+    read_labels(img, ino).unwrap_or([None; MOST_LAYERS])
+}
+
 // The labels of a valid image: the batches, front first, as many as there are, and live last. No `Vec`: the project has no heap. No
 // count: where there is no batch, there is no label.
 pub fn read_labels(img: &[u8], ino: u64) -> Result<[Option<Label>; MOST_LAYERS], Refusal> {

@@ -7,8 +7,12 @@
 mod label;
 mod show;
 
+ghost use Rattle.std.specs.Prelude.{◌≡◌, IfOk};
+ghost use Rattle.stack.specs.InStack.{StackOf};
+ghost use Rattle.trace.specs.Said.{Decides};
+
 use input::fill;
-use label::{Label, read_labels};
+use label::{Label, label_layers};
 use lookup::child::lookup_child;
 use script::line::parsed;
 use show::{Lookup, write_answer, write_base, write_label, write_question, write_record};
@@ -84,14 +88,18 @@ fn explain(rt: &impl Print, img: &[u8], ino: u64, name: &[u8]) -> io::Result<()>
     write_answer(rt, lookup_child(img, ino, name))
 }
 
-// The lookup, and the layers by their names.
+// The lookup, and the layers by their names: of the image, the inode and the name that were asked for.
 fn open_lookup<'a>(
     img: &'a [u8],
     ino: u64,
     name: &'a [u8],
-) -> Result<(Lookup<'a>, [Option<Label>; MOST_LAYERS]), Refusal> {
+) -> Result<(Lookup<'a>, [Option<Label>; MOST_LAYERS]), Refusal>
+    ensures stack { IfOk result (λ x. StackOf img.now ino x.0.stack) }
+    ensures name { IfOk result (λ x. x.0.name.now ≡ name.now) }
+    ensures decides { IfOk result (λ x. Decides x.0.stack.img.now x.0.stack.places x.0.name.now x.0.decides) }
+{
     let stack = open_named(img, ino, name)?;
-    let labels = read_labels(img, ino)?;
+    let labels = label_layers(img, ino);
     let lookup = Lookup {
         stack,
         name,

@@ -12,16 +12,18 @@ use merge::sources::Sources;
 use stack::stack::Stack;
 use wire::number::put_number;
 use wire::put::{Written, advance};
-use writers::write::put_text_part;
+use writers::write::{put_entry, put_text_part};
 
 // Writes a name that is given, and what it is given. A `match`, as in `gather`.
 fn put_row(buf: &mut [u8], at: usize, img: &[u8], row: Row, listing: Listing) -> usize
     ensures { Put buf.old at (row_given listing (given_of_row img.now row)) result buf.new }
 {
-    let next = put_text_part(buf, at, img, row.name);
     match listing {
-        Listing::Entries => put_number(buf, next, row.given.inode),
-        Listing::Attributes => put_text_part(buf, next, img, row.given.value),
+        Listing::Entries => put_entry(buf, at, img, row.name, row.given.inode),
+        Listing::Attributes => {
+            let next = put_text_part(buf, at, img, row.name);
+            put_text_part(buf, next, img, row.given.value)
+        }
     }
 }
 

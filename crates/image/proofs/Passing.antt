@@ -173,18 +173,19 @@ module _ {K A : Type 0} (O : Order K) (key : Codec K) (value : Codec A) where
         let m : Map O A = record { rows = l; rising = (all-rising O key value None l w.1.1).1.0 } in
         rw (e, as_map-rows O m)
 
+    pub ends-rising : {img : List ℕ} {at : ℕ} {next : Result ℕ Fault} → Ends img (rows O key value most limit).read at next
+        → Ends img (rising O key value most limit).read at next
+    ends-rising {img} {at} h =
+        record { same = rising-passed (drop at img) ((rows O key value most limit).read (drop at img)) refl ∙ h.same; within = h.within }
+
     -- the count, and the rows after it
     pub ends-list : {img : List ℕ} {at : ℕ} {o : Result Rows Fault} {list : Rows} {r : Result ℕ Fault} → ReadsRows img most at o → o ≡ Ok list
         → Ends img (rows_from O key value list.count None) list.first r → Ends img (rising O key value most limit).read at r
-    ends-list {img} {at} h d g =
-        let i : Ends img (rows O key value most limit).read at _ = ends-chosen (λ n r. rows_from O key value n None r) h (ap counted d) g in
-        record { same = rising-passed (drop at img) ((rows O key value most limit).read (drop at img)) refl ∙ i.same; within = i.within }
+    ends-list h d g = ends-rising (ends-chosen (λ n r. rows_from O key value n None r) h (ap counted d) g)
 
     pub ends-unlisted : {img : List ℕ} {at : ℕ} {o : Result Rows Fault} {r : Result ℕ Fault} {f : Fault} → ReadsRows img most at o → o ≡ Err f → r ≡ Err f
         → Ends img (rising O key value most limit).read at r
-    ends-unlisted {img} {at} h d e =
-        let i : Ends img (rows O key value most limit).read at _ = ends-unchosen (λ n r. rows_from O key value n None r) h (ap counted d) e in
-        record { same = rising-passed (drop at img) ((rows O key value most limit).read (drop at img)) refl ∙ i.same; within = i.within }
+    ends-unlisted h d e = ends-rising (ends-unchosen (λ n r. rows_from O key value n None r) h (ap counted d) e)
 
 last-passed : {K A : Type 0} (prev : Option K) {last : Option K} (o : Parsed (List (K × A))) {r : List ℕ} → last_of prev o ≡ got last r → passed o ≡ got tt r
 last-passed prev (fault f) e = never-got e

@@ -1,5 +1,5 @@
 -- What a type of the code means.
-use Rattle.std.specs.Prelude.{◌≡◌, ℕ, ◌<◌, ◌≤◌, Option, Result, Ok, Err}
+use Rattle.std.specs.Prelude.{◌≡◌, ℕ, ◌<◌, ◌≤◌, Option, Result, Ok, Err, List, codes}
 use Rattle.std.specs.Option.{option_map}
 use Rattle.wire.specs.declared.fault.Fault.{Fault}
 use Rattle.wire.specs.declared.fault.Fault.TheVariants.{Malformed}
@@ -26,3 +26,13 @@ code_meant = option_map kind_meant
 abbrev pub KindOf : ℕ → Result FileType Fault → Type 0
 KindOf n (Ok t) = (n ≤ 6) × (kind_meant t ≡ kind_at n)
 KindOf n (Err f) = (6 < n) × (f ≡ Malformed)
+
+-- what the programs print of a type
+abbrev pub type_text : FileType → List ℕ
+type_text K.Directory = codes "directory"
+type_text K.RegularFile = codes "file"
+type_text K.Symlink = codes "symlink"
+type_text K.NamedPipe = codes "pipe"
+type_text K.CharDevice = codes "character device"
+type_text K.BlockDevice = codes "block device"
+type_text K.Socket = codes "socket"

@@ -1,10 +1,10 @@
 // The kinds of nodes, and the number and letter of each.
-ghost use Rattle.std.specs.Prelude.{◌+◌, ◌≤◌, ◌≡◌};
+ghost use Rattle.std.specs.Prelude.{◌+◌, ◌≤◌, ◌≡◌, Some};
 ghost use Rattle.wire.specs.Reading.{Reads, meant};
 ghost use Rattle.image.specs.Meaning.{kind_number};
 ghost use Rattle.image.specs.KindLayout.{kind, code};
 ghost use Rattle.image.specs.Letters.{letter, letter_of};
-ghost use Rattle.image.specs.FileTypes.{kind_meant, code_meant, KindOf};
+ghost use Rattle.image.specs.FileTypes.{kind_meant, code_meant, KindOf, type_text};
 
 use std::fmt;
 use wire::fault::Fault;
@@ -46,6 +46,8 @@ impl FileType {
 }
 
 impl fmt::Display for FileType {
+    ghost output = { λ file_type. Some (type_text file_type) };
+
     fn fmt<W: fmt::Write>(&self, f: &mut fmt::Formatter<W>) -> fmt::Result {
         f.write_str(match self {
             FileType::Directory => "directory",

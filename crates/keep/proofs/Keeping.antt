@@ -1,11 +1,7 @@
 -- A list by name in step with the names that lead somewhere below: which rows stay.
 -- Assumes nothing.
-use Rattle.std.specs.Prelude.{None, Option, Some, MatchOption}
-use Rattle.std.specs.Option.{option_copied}
-use Rattle.std.specs.Iterator.Adapters.{peekable_peeked, peekable_source, peekable_steps, PeeksNext}
-use Rattle.std.specs.declared.iter.Ahead.{Ahead}
-use Rattle.std.proofs.Common.{Bor}
-use mathlib.Core.Path.{◌≡◌, refl, sym, ap, ◌∙◌}
+use Rattle.std.specs.Prelude.{None, Option, Some}
+use mathlib.Core.Path.{◌≡◌, refl, sym, ap, ◌∙◌, subst}
 use mathlib.Core.Bool.{Bool, true, false, cond}
 use mathlib.Core.List.{List, [], ◌∷◌, ◌++◌}
 use Prim.Native.Nat.{ℕ, zero, suc, ◌+◌, ◌-◌, ◌≤◌, ◌<◌}
@@ -48,8 +44,9 @@ use Rattle.merge.proofs.Piles.{rising-pile}
 use Rattle.change.specs.Cuts.{rows_bytes}
 use Rattle.change.specs.Sections.{between}
 use Rattle.keep.specs.Below.{inode_given}
-use Rattle.keep.specs.Keeps.{keeps, kept_map, kept_bytes, keep_rows, kept_rows, rows_kept, left_of}
-use Rattle.keep.specs.Keeps.{names_of, leads_in, leads_on, InStep, Sought, Keeps, PutsKept}
+use Rattle.keep.specs.declared.keep.Names.{Names}
+use Rattle.keep.specs.Keeps.{keeps, kept_map, kept_bytes, keep_rows, kept_rows, rows_kept}
+use Rattle.keep.specs.Keeps.{names_of, leads_in, leads_from, leads_on, InStep, Sought, Keeps, PutsKept}
 use Rattle.nodes.proofs.OneForm.{by_name-one}
 use Rattle.wire.proofs.OneForm.{then-one}
 use Rattle.image.proofs.OneForm.{name-one, under-one}
@@ -99,99 +96,81 @@ module _ {K A : Type 0} (O : Order K) (p : K → A → Bool) where
 pub sources-rise : (all : Sources) → Rising by_bytes (given_in all)
 sources-rise all = rising-pile by_bytes (itself by_bytes) (sources_of all.img.now (listed all))
 
--- none is asked for at first
-pub step-start : (all : Sources) (n : Ahead Sources Row) → peekable_source n ≡ all → peekable_peeked n ≡ None
-    → InStep all.img.now n × (names_of n ≡ given_in all)
-step-start all n e z = (record { image = rw e; rises = rw (z, e) (sources-rise all) }, rw (z, e))
+-- the first of them is read: with it, those that are left lead where all of them do
+module _ {all : Sources} {first : Option Row} {rest : Sources} (g : Gives all first rest) where
+  pub first-rises : Rising by_bytes (gives_from first rest)
+  first-rises = subst (Rising by_bytes) g.gives (sources-rise all)
 
--- to ask for the next one passes none
-module _ (n v : Ahead Sources Row) (p : PeeksNext Gives n v) where
-  ahead-is : (names_of v ≡ names_of n) × ((peekable_source v).img.now ≡ (peekable_source n).img.now)
-  ahead-is = go (peekable_peeked n) p.1
-    where
-      there : names_of v ≡ gives_from p.0 (peekable_source v)
-      there = rw p.2
+  leads_same : leads_from first rest ≡ leads_in all
+  leads_same = ap {B = Text → Option ℕ} (λ names k. map_if inode_given (lookup by_bytes k names)) (sym g.gives)
 
-      go : (o : Option (Option Row))
-          → MatchOption o (Gives (peekable_source n) p.0 (peekable_source v)) (λ x. (p.0 ≡ x) × (peekable_source v ≡ peekable_source n))
-          → (names_of v ≡ left_of o (peekable_source n)) × ((peekable_source v).img.now ≡ (peekable_source n).img.now)
-      go None g = (there ∙ sym g.gives, g.image)
-      go (Some x) e =
-          (there ∙ ap (λ q. gives_from q (peekable_source v)) e.0 ∙ ap (λ all. gives_from x all) e.1, ap (λ all. all.img.now) e.1)
+  pub led-list : (list : NameList) {old new : List ℕ} {at q : ℕ} → Put old at (kept_bytes list (leads_from first rest)) q new
+      → Put old at (kept_bytes list (leads_in all)) q new
+  led-list list {old} {new} {at} {q} p = subst (λ (f : Text → Option ℕ). Put old at (kept_bytes list f) q new) leads_same p
 
 -- those that are less are passed: what is left leads where it led at first
-pub record Seeking (img : List ℕ) (n₀ : Ahead Sources Row) (k : Text) (n : Ahead Sources Row) : Type 0 where
+pub record Seeking (img : List ℕ) (n₀ : Names) (k : Text) (n : Names) : Type 0 where
   pub in_step : InStep img n
   pub same : (j : Text) → (by_bytes.cmp j k ≡ Less → ⊥) → leads_on n j ≡ leads_on n₀ j
 
 not-less : (k : Text) → by_bytes.cmp k k ≡ Less → ⊥
 not-less k z = never-lt _ z (by_bytes.self k)
 
-module _ {img : List ℕ} {n₀ : Ahead Sources Row} {k : Text} (n v : Ahead Sources Row) (o : Option (Bor Row)) (g : Seeking img n₀ k n) (p : PeeksNext Gives n v)
-    (c : peekable_peeked v ≡ Some (option_copied o)) where
-  ahead : Seeking img n₀ k v
-  ahead =
-      let e = ahead-is n v p in
-      record {
-        in_step = record { image = e.1 ∙ g.in_step.image; rises = rw e.0 g.in_step.rises };
-        same = λ j h. rw e.0 (g.same j h);
-      }
+pub seeking-start : {img : List ℕ} {n : Names} {k : Text} → InStep img n → Seeking img n k n
+seeking-start s = record { in_step = s; same = λ j h. refl }
 
-  names : names_of v ≡ gives_from (option_copied o) (peekable_source v)
-  names = rw c
+module _ {img : List ℕ} {n₀ : Names} {k : Text} {n : Names} (g : Seeking img n₀ k n) where
+  found : {x : Option ℕ} → x ≡ leads_on n k → Sought img n₀ k x n
+  found e = record { leads = e ∙ g.same k (not-less k); in_step = g.in_step; same = g.same }
 
-  found : {x : Option ℕ} → x ≡ leads_on v k → Sought img n₀ k x v
-  found e = record { leads = e ∙ ahead.same k (not-less k); in_step = ahead.in_step; same = ahead.same }
-
-  pub seeking-end : o ≡ None → Sought img n₀ k None v
+  pub seeking-end : n.first ≡ None → Sought img n₀ k None n
   unfolding lookup
-  seeking-end e = found (rw (names, e))
+  seeking-end e = found (rw e)
 
-  module _ (a : Bor Row) (i : o ≡ Some a) where
-    rows : names_of v ≡ given_of_row img a.now ∷ given_in (peekable_source v)
-    rows = (rw i at names) ∙ ap (λ x. given_of_row x a.now ∷ given_in (peekable_source v)) ahead.in_step.image
+  module _ (a : Row) (i : n.first ≡ Some a) where
+    rows : names_of n ≡ given_of_row img a ∷ given_in n.rest
+    rows = rw i (ap (λ x. given_of_row x a ∷ given_in n.rest) g.in_step.image)
 
     abbrev key : Text
-    key = text_at img a.now.name
-
-    module _ (m : Ahead Sources Row) (r : Option Row) (s : peekable_steps Gives v r m) where
-      source : peekable_source m ≡ peekable_source v
-      source = let t = rw c at s.1 in t.1
-
-      rest : names_of m ≡ given_in (peekable_source v)
-      rest = rw (s.0, source)
+    key = text_at img a.name
 
     module _ {x : Ordering} (d : x ≡ by_bytes.cmp key k) where
       seen : (y : Ordering) → x ≡ y → by_bytes.cmp key k ≡ y
       seen y t = sym d ∙ t
 
-      pub seeking-equal : x ≡ Equal → Sought img n₀ k (Some a.now.given.inode) v
+      pub seeking-equal : x ≡ Equal → Sought img n₀ k (Some a.given.inode) n
       unfolding lookup
       seeking-equal t = found (rw (rows, by_bytes.same key k (seen Equal t), by_bytes.self k))
 
-      pub seeking-greater : x ≡ Greater → Sought img n₀ k None v
+      pub seeking-greater : x ≡ Greater → Sought img n₀ k None n
       seeking-greater t =
           let z = by_bytes.flip key k (seen Greater t) in
-          let u = rw rows at ahead.in_step.rises in
-          let below = under-below by_bytes k key (given_in (peekable_source v)) z u.0 in
-          found (rw rows (ap (map_if inode_given) (sym (lookup-under by_bytes k (given_of_row img a.now ∷ given_in (peekable_source v)) (z, below)))))
+          let u = rw rows at g.in_step.rises in
+          let below = under-below by_bytes k key (given_in n.rest) z u.0 in
+          found (rw rows (ap (map_if inode_given) (sym (lookup-under by_bytes k (given_of_row img a ∷ given_in n.rest) (z, below)))))
 
-      pub seeking-more : x ≡ Less → (m : Ahead Sources Row) (r : Option Row) → peekable_steps Gives v r m → Seeking img n₀ k m
-      unfolding lookup
-      seeking-more t m r s = record {
-        in_step = record { image = ap (λ all. all.img.now) (source m r s) ∙ ahead.in_step.image; rises = rw (rest m r s) (sources-rise (peekable_source v)) };
-        same = λ j h. sym (passes j h) ∙ ahead.same j h;
-      }
-        where
-          passes : (j : Text) → (by_bytes.cmp j k ≡ Less → ⊥) → leads_on v j ≡ leads_on m j
-          passes j h = rw (rows, rest m r s) (go (by_bytes.cmp j key) refl)
-            where
-              go : (y : Ordering) → by_bytes.cmp j key ≡ y
-                  → map_if inode_given (choose y (Some (given_of_row img a.now).1) (lookup by_bytes j (given_in (peekable_source v))))
-                  ≡ leads_in (peekable_source v) j
-              go Less q = refl
-              go Greater q = refl
-              go Equal q = absurd (h (rw (by_bytes.same j key q) (seen Less t)))
+      -- the first name is passed
+      module _ (t : x ≡ Less) {first : Option Row} {rest : Sources} (s : Gives n.rest first rest) where
+        pub seeking-more : Seeking img n₀ k (record { first = first; rest = rest })
+        unfolding lookup
+        seeking-more = record {
+          in_step = record { image = s.image ∙ g.in_step.image; rises = first-rises s };
+          same = λ j h. ap (λ (f : Text → Option ℕ). f j) (leads_same s) ∙ sym (passes j h) ∙ g.same j h;
+        }
+          where
+            passes : (j : Text) → (by_bytes.cmp j k ≡ Less → ⊥) → leads_on n j ≡ leads_in n.rest j
+            passes j h = rw rows (go (by_bytes.cmp j key) refl)
+              where
+                go : (y : Ordering) → by_bytes.cmp j key ≡ y
+                    → map_if inode_given (choose y (Some (given_of_row img a).1) (lookup by_bytes j (given_in n.rest)))
+                    ≡ leads_in n.rest j
+                go Less q = refl
+                go Greater q = refl
+                go Equal q = absurd (h (rw (by_bytes.same j key q) (seen Less t)))
+
+        -- one is left less
+        pub seeking-less : length (gives_from first rest) < length (names_of n)
+        seeking-less = rw (rows, ← s.gives) (omega arith)
 
 -- ---- the rows that stay, one after the other
 
@@ -200,7 +179,7 @@ bytes_of u l = rows_bytes name (under u) l
 
 -- of the rows `all` these are left, from here on
 pub record Progress (img : List ℕ) (u : UnderN.Under) (f : Text → Option ℕ) (old : List ℕ) (at : ℕ) (all : List (Text × UnderName u)) (here left : ℕ)
-    (names : Ahead Sources Row) (buf : List ℕ) (k : Written) : Type 0 where
+    (names : Names) (buf : List ℕ) (k : Written) : Type 0 where
   pub prev : Option Text
   pub rows : List (Text × UnderName u)
   pub standing : Standing img u prev here left rows
@@ -208,7 +187,7 @@ pub record Progress (img : List ℕ) (u : UnderN.Under) (f : Text → Option ℕ
   pub put : (r : ℕ) (new : List ℕ) → Put buf k.end (bytes_of u (kept_rows u f rows)) r new → Put old at (bytes_of u (kept_rows u f all)) r new
   pub counts : k.count + length (kept_rows u f rows) ≡ length (kept_rows u f all)
 
-pub record Keeping (image img : List ℕ) (u : UnderN.Under) (f : Text → Option ℕ) (old : List ℕ) (at first total here left : ℕ) (names : Ahead Sources Row)
+pub record Keeping (image img : List ℕ) (u : UnderN.Under) (f : Text → Option ℕ) (old : List ℕ) (at first total here left : ℕ) (names : Names)
     (buf : List ℕ) (k : Written) : Type 0 where
   pub in_step : InStep image names
   pub low : k.end ≤ edge
@@ -217,31 +196,28 @@ pub record Keeping (image img : List ℕ) (u : UnderN.Under) (f : Text → Optio
   pub kept : (l : List (Text × UnderName u)) → Standing img u None first total l → Progress img u f old at l here left names buf k
 
 -- none is looked at yet
-pub keeping-start : (all : Sources) (n : Ahead Sources Row) → peekable_source n ≡ all → peekable_peeked n ≡ None → {img : List ℕ} {u : UnderN.Under}
-    {old : List ℕ} {at here left total : ℕ}
+pub keeping-start : (n : Names) {image img : List ℕ} {u : UnderN.Under} → InStep image n
+    → {old : List ℕ} {at here left total : ℕ}
     → at ≤ edge → length old < edge → left ≡ total
-    → Keeping all.img.now img u (leads_in all) old at here total here left n old (record { end = at; count = 0 })
-keeping-start all n e z {u = u} low short h =
-    let t = step-start all n e z in
-    record {
-      in_step = t.0;
-      low = low;
-      same = refl;
-      short = short;
-      kept = λ l w. record {
-        prev = None;
-        rows = l;
-        standing = rw h w;
-        agree = agree u (λ k. ap (λ names. map_if inode_given (lookup by_bytes k names)) t.1) l;
-        put = λ r new p. p;
-        counts = omega arith;
-      };
-    }
+    → Keeping image img u (leads_on n) old at here total here left n old (record { end = at; count = 0 })
+keeping-start n {u = u} s low short h = record {
+  in_step = s;
+  low = low;
+  same = refl;
+  short = short;
+  kept = λ l w. record {
+    prev = None;
+    rows = l;
+    standing = rw h w;
+    agree = agree u l;
+    put = λ r new p. p;
+    counts = omega arith;
+  };
+}
   where
-    agree : (u : UnderN.Under) → ((k : Text) → leads_on n k ≡ leads_in all k) → (l : List (Text × UnderName u))
-        → Every (λ (e : Text × UnderName u). leads_on n e.0 ≡ leads_in all e.0) l
-    agree u h [] = tt
-    agree u h (e ∷ l) = (h e.0, agree u h l)
+    agree : (u : UnderN.Under) (l : List (Text × UnderName u)) → Every (λ (e : Text × UnderName u). leads_on n e.0 ≡ leads_on n e.0) l
+    agree u [] = tt
+    agree u (e ∷ l) = (refl, agree u l)
 
 -- no row is left
 rows_end : {img : List ℕ} {u : UnderN.Under} {prev : Option Text} {here left : ℕ} {l : List (Text × UnderName u)}
@@ -261,10 +237,10 @@ keep-few p (e ∷ l) = go (p e.0 e.1) (keep-few p l)
     go true h = omega arith
     go false h = omega arith
 
-module _ {image img : List ℕ} {u : UnderN.Under} {f : Text → Option ℕ} {old : List ℕ} {at first total here left : ℕ} {names : Ahead Sources Row}
+module _ {image img : List ℕ} {u : UnderN.Under} {f : Text → Option ℕ} {old : List ℕ} {at first total here left : ℕ} {names : Names}
     {buf : List ℕ} {k : Written}
     (g : Keeping image img u f old at first total here left names buf k) where
-  module _ (h : 0 < left) {r : RowRead} (w : ReadsRow img u here r) {x : Option ℕ} {seen : Ahead Sources Row}
+  module _ (h : 0 < left) {r : RowRead} (w : ReadsRow img u here r) {x : Option ℕ} {seen : Names}
       (s : Sought image names (row_name img r) x seen) where
     -- the names after the row's are not less
     later : (l : List (Text × UnderName u)) → Under by_bytes (row_name img r) l → Every (λ (e : Text × UnderName u). leads_on names e.0 ≡ f e.0) l
@@ -336,36 +312,36 @@ module _ {image img : List ℕ} {u : UnderN.Under} {f : Text → Option ℕ} {ol
 
 -- ---- the same of the rows that are left of a list
 
-pub record KeepingRows (all : Sources) (list : NameList) (old : List ℕ) (at : ℕ) (first rows : NameRows) (names : Ahead Sources Row)
+pub record KeepingRows (image : List ℕ) (f : Text → Option ℕ) (list : NameList) (old : List ℕ) (at : ℕ) (first rows : NameRows) (names : Names)
     (buf : List ℕ) (k : Written) : Type 0 where
-  pub image : rows.img.now ≡ list.img.now
+  pub image_is : rows.img.now ≡ list.img.now
   pub sort : rows.what ≡ list.what
-  pub keeping : Keeping all.img.now list.img.now list.what (leads_in all) old at first.rows.first first.rows.count rows.rows.first rows.rows.count names buf k
+  pub keeping : Keeping image list.img.now list.what f old at first.rows.first first.rows.count rows.rows.first rows.rows.count names buf k
 
-module _ {all : Sources} {list : NameList} {old : List ℕ} {at : ℕ} {first rows : NameRows} {names : Ahead Sources Row} {buf : List ℕ} {k : Written}
-    (g : KeepingRows all list old at first rows names buf k) where
-  module _ {place : ℕ} {r : RowRead} {after : NameRows} (t : Steps rows place r after) {x : Option ℕ} {seen : Ahead Sources Row}
-      (s : Sought all.img.now names (row_name list.img.now r) x seen) {b : Bool} (d : Keeps list.img.now list.what x r.under b) where
+module _ {image : List ℕ} {f : Text → Option ℕ} {list : NameList} {old : List ℕ} {at : ℕ} {first rows : NameRows} {names : Names}
+    {buf : List ℕ} {k : Written} (g : KeepingRows image f list old at first rows names buf k) where
+  module _ {place : ℕ} {r : RowRead} {after : NameRows} (t : Steps rows place r after) {x : Option ℕ} {seen : Names}
+      (s : Sought image names (row_name list.img.now r) x seen) {b : Bool} (d : Keeps list.img.now list.what x r.under b) where
     -- a row that stays is written
     pub row-stays : b ≡ true → {end : ℕ} {out : List ℕ} → Put buf k.end (between list.img.now place r.next) end out
-        → {more : Written} → (more.end ≡ end) × (more.count ≡ k.count + 1) → KeepingRows all list old at first after seen out more
+        → {more : Written} → (more.end ≡ end) × (more.count ≡ k.count + 1) → KeepingRows image f list old at first after seen out more
     row-stays e p w = record {
-      image = t.image ∙ g.image;
+      image_is = t.image ∙ g.image_is;
       sort = t.sort ∙ g.sort;
-      keeping = rw (t.next, t.fewer, w.0, w.1) (keeping-stays g.keeping t.more (row-stepped g.image g.sort t) s d e (rw t.at at p));
+      keeping = rw (t.next, t.fewer, w.0, w.1) (keeping-stays g.keeping t.more (row-stepped g.image_is g.sort t) s d e (rw t.at at p));
     }
 
-    pub row-drops : b ≡ false → KeepingRows all list old at first after seen buf k
+    pub row-drops : b ≡ false → KeepingRows image f list old at first after seen buf k
     row-drops e = record {
-      image = t.image ∙ g.image;
+      image_is = t.image ∙ g.image_is;
       sort = t.sort ∙ g.sort;
-      keeping = rw (t.next, t.fewer) (keeping-drops g.keeping t.more (row-stepped g.image g.sort t) s d e);
+      keeping = rw (t.next, t.fewer) (keeping-drops g.keeping t.more (row-stepped g.image_is g.sort t) s d e);
     }
 
 -- ---- the list, all of whose rows were looked at
 
 module _ (list : NameList) {image : List ℕ} {f : Text → Option ℕ} {old : List ℕ} {at here left : ℕ} {r : NameRows}
-    {names : Ahead Sources Row} {buf : List ℕ} {k : Written}
+    {names : Names} {buf : List ℕ} {k : Written}
     (g : Keeping image list.img.now list.what f old at r.rows.first r.rows.count here left names buf k) (l : ListRows list r) where
   pub keeping_all : left ≤ 0 → PutsKept list f old at k buf
   unfolding rows_bytes

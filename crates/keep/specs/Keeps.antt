@@ -1,8 +1,6 @@
 -- The rows that stay. Document 01: "it drops added names that lead to the same inode below and removed names that lead to none."
-use Rattle.std.specs.Prelude.{◌≡◌, Bool, not, cond, List, [], ◌∷◌, ℕ, length, drop, None, Option, Some}
+use Rattle.std.specs.Prelude.{◌≡◌, Bool, not, cond, List, [], ◌∷◌, ℕ, length, drop, Option}
 use Rattle.std.specs.declared.cmp.Ordering.TheVariants.{Less}
-use Rattle.std.specs.declared.iter.Ahead.{Ahead}
-use Rattle.std.specs.Iterator.Adapters.{peekable_peeked, peekable_source}
 use Rattle.wire.specs.Parse.{got}
 use Rattle.wire.specs.Orders.{by_bytes}
 use Rattle.wire.specs.Rows.{lookup, Rising}
@@ -21,6 +19,7 @@ use Rattle.merge.specs.Sources.{Given}
 use Rattle.merge.specs.Merges.{given_in, gives_from}
 use Rattle.merge.specs.declared.merge.Row.{Row}
 use Rattle.merge.specs.declared.sources.Sources.{Sources}
+use Rattle.keep.specs.declared.keep.Names.{Names}
 use Rattle.change.specs.Cuts.{rows_bytes}
 use Rattle.keep.specs.Below.{inode_given}
 use Rattle.nodes.specs.Listed.{by_name}
@@ -51,24 +50,24 @@ kept_rows u below l = keep_rows (λ k v. keeps u (below k) v) l
 abbrev pub leads_in : Sources → Text → Option ℕ
 leads_in all k = map_if inode_given (lookup by_bytes k (given_in all))
 
--- the names that are left: the one that is ahead, if it was asked for, and those that the sources past it give
-abbrev pub left_of : Option (Option Row) → Sources → List (Text × (ℕ × Given))
-left_of None all = given_in all
-left_of (Some first) all = gives_from first all
+-- the same of the first name, which was read, and of those that the sources past it give
+abbrev pub leads_from : Option Row → Sources → Text → Option ℕ
+leads_from first rest k = map_if inode_given (lookup by_bytes k (gives_from first rest))
 
-abbrev pub names_of : Ahead Sources Row → List (Text × (ℕ × Given))
-names_of n = left_of (peekable_peeked n) (peekable_source n)
+-- the names that are left
+abbrev pub names_of : Names → List (Text × (ℕ × Given))
+names_of n = gives_from n.first n.rest
 
-abbrev pub leads_on : Ahead Sources Row → Text → Option ℕ
+abbrev pub leads_on : Names → Text → Option ℕ
 leads_on n k = map_if inode_given (lookup by_bytes k (names_of n))
 
 -- they are of the image, and rise
-pub record InStep (img : List ℕ) (n : Ahead Sources Row) : Type 0 where
-  pub image : (peekable_source n).img.now ≡ img
+pub record InStep (img : List ℕ) (n : Names) : Type 0 where
+  pub image : n.rest.img.now ≡ img
   pub rises : Rising by_bytes (names_of n)
 
 -- what a name leads to; the names that are less are passed
-pub record Sought (img : List ℕ) (n : Ahead Sources Row) (k : Text) (x : Option ℕ) (r : Ahead Sources Row) : Type 0 where
+pub record Sought (img : List ℕ) (n : Names) (k : Text) (x : Option ℕ) (r : Names) : Type 0 where
   pub leads : x ≡ leads_on n k
   pub in_step : InStep img r
   pub same : (j : Text) → (by_bytes.cmp j k ≡ Less → ⊥) → leads_on r j ≡ leads_on n j

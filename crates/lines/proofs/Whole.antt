@@ -1,6 +1,6 @@
 -- What the program writes, piece by piece, is the whole listing.
 -- Assumes nothing.
-use Rattle.std.specs.Prelude.{Ok, Err}
+use Rattle.std.specs.Prelude.{Option, None, Some, Ok, Err}
 use mathlib.Core.Path.{◌≡◌, refl, ap, ◌∙◌}
 use mathlib.Core.List.{List, [], ◌∷◌, ◌++◌}
 use mathlib.Core.Bool.{Bool, true, false, ◌&&◌, cond}
@@ -14,11 +14,13 @@ use Rattle.wire.proofs.Puts.{put_whole}
 use Rattle.image.specs.Meaning as M
 use Rattle.image.specs.Meaning.{Store}
 use Rattle.rules.specs.Answers.{Answer, refused, answer}
-use Rattle.rules.specs.FileAttrs.{FileAttr}
+use Rattle.rules.specs.FileAttrs.{FileAttr, base_attr}
 use Rattle.lines.specs.Digits.{glyph, digits}
 use Rattle.lines.specs.Lines.{heading, line, line_if, line_of, lines_of, refusal, snapshot_of, listing, listing_bytes}
-use Rattle.lines.specs.Rows.{Listed, OpensTo, OpensListing, longest, Pieces, done, piece}
+use Rattle.lines.specs.Rows.{Listed, HasRows, OpensTo, OpensListing, NextInode, longest, Pieces, done, piece}
+use Rattle.image.specs.declared.rows.Rows.{Rows}
 use Rattle.attrs.specs.Meant.{attr_meant}
+use Rattle.attrs.specs.declared.node.FileAttr as D
 use Rattle.lines.specs.declared.inodes.BaseRows.{BaseRows}
 use Rattle.survey.specs.Verdict.{number_of}
 use Rattle.survey.specs.declared.refusal.Refusal.{Refusal}
@@ -39,6 +41,13 @@ pub line-short : (a : FileAttr) → length (line a) ≤ longest
 line-short a =
     simp length-append
     (omega (arith, digits-few 10 22 1 a.inode, digits-few 8 22 4 a.perm, digits-few 10 22 1 a.links, digits-few 10 22 1 a.size))
+
+pub line-of-short : (e : ℕ × M.Node) → length (line_of e) ≤ longest
+line-of-short e = go (base_attr e.0 (Some e.1))
+  where
+    go : (o : Option FileAttr) → length (line_if o) ≤ longest
+    go None = omega arith
+    go (Some a) = line-short a
 
 pub refusal-short : (n : ℕ) → length (refusal n) ≤ longest
 refusal-short n = simp length-append (omega (arith, digits-few 10 22 1 n))
@@ -64,6 +73,22 @@ pieces-lines (e ∷ l) r bytes h (piece {after = t} {a = a} {bytes = rest} g roo
 -- where what was written at the start of a buffer ends
 pub put-ends : {old new bs : List ℕ} {n : ℕ} → Put old 0 bs n new → length bs ≤ longest → n ≤ longest
 put-ends p h = omega (arith, p.to)
+
+-- ---- inodes stand wherever the program reads one
+
+pub opened_rows : {img old new : List ℕ} {rows : Rows} → OpensListing img old (Ok rows) new → HasRows new rows
+opened_rows {img} {old} {new} {rows} o = go (snapshot_of (length old) img) o.opens
+  where
+    go : (a : Answer Store) → OpensTo a (Ok rows) new → HasRows new rows
+    go (refused n) d = cc
+    go (answer s) d = let e : rows ≡ d.0 = cc in (s.base.rows, rw e d.2)
+
+pub next-rows : {r after : BaseRows} {a : D.FileAttr} → HasRows r.img.now r.rows → NextInode r a after → HasRows after.img.now after.rows
+next-rows {r} {after} h n = go h.0 h.1
+  where
+    go : (l : List (ℕ × M.Node)) → Listed r.img.now r.rows l → HasRows after.img.now after.rows
+    go [] s = absurd (let z : r.rows.count ≡ 0 = s.count in omega (arith, n.more, z))
+    go (e ∷ l) s = (l, n.rest e l s)
 
 -- ---- the whole: all that is written, in either case, is `listing_bytes` of the image
 

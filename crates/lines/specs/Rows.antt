@@ -32,6 +32,10 @@ pub record Listed (img : List ℕ) (r : Rows) (l : List (ℕ × Node)) : Type 0 
   pub count : r.count ≡ length l
   pub fits : Every (λ e. inode.Fits e.0 × node.Fits e.1) l
 
+-- inodes stand there, as many as are said to be left
+abbrev pub HasRows : List ℕ → Rows → Type 0
+HasRows img r = (l : List (ℕ × Node)) × Listed img r l
+
 -- the refusal, or the inodes of the snapshot
 abbrev pub OpensTo : Answer Store → Result Rows Refusal → List ℕ → Type 0
 OpensTo (refused n) r new = numbered r ≡ Err n

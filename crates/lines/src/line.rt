@@ -51,6 +51,13 @@ pub fn put_line(buf: &mut [u8], at: usize, attr: FileAttr) -> usize
 pub fn put_refusal(buf: &mut [u8], at: usize, refused: Refusal) -> usize
     ensures { Put buf.old at (refusal (number_of refused)) result buf.new }
 {
+    put_refusal_number(buf, at, refused.number())
+}
+
+// The same of a refusal's number, whatever it is.
+pub fn put_refusal_number(buf: &mut [u8], at: usize, number: u32) -> usize
+    ensures { Put buf.old at (refusal number) result buf.new }
+{
     let next = put_bytes(buf, at, b"refused ");
-    put_field(buf, next, refused.number() as u64, b'\n')
+    put_field(buf, next, number as u64, b'\n')
 }

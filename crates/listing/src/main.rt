@@ -3,6 +3,8 @@
 // image, so that a longer one is seen to be too long, 65,536 for its snapshot, and 128 for a line.
 #![tactic(auto)]
 
+ghost use Rattle.lines.specs.Rows.{HasRows};
+
 use input::fill;
 use lines::inodes::BaseRows;
 use lines::line::{put_heading, put_line, put_refusal};
@@ -31,8 +33,11 @@ fn write_refusal(rt: &impl Print, refusal: Refusal) -> io::Result<()> {
     rt.write_all(&line[..end])
 }
 
-// The heading and the lines. Stops at the first write that fails.
-fn write_lines(rt: &impl Print, rows: BaseRows) -> io::Result<()> {
+// The heading and the lines. Stops at the first write that fails. The rows stand in the image that they are read from: the snapshot, and not the
+// image that it was made of.
+fn write_lines(rt: &impl Print, rows: BaseRows) -> io::Result<()>
+    requires { HasRows rows.img.now rows.rows }
+{
     let mut line = [0u8; 128];
     let end = put_heading(&mut line, 0);
     rt.write_all(&line[..end])?;

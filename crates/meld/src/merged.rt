@@ -8,7 +8,7 @@ use crate::left::{Both, Left};
 use crate::row::{Row, all_rows, first_row};
 use records::write_node::put_list_if;
 use std::cmp::Ordering;
-use wire::order::compare;
+use wire::order::compare_part;
 use wire::part::Part;
 use wire::put::{Written, put_bytes, put_counted, put_part};
 
@@ -18,7 +18,11 @@ impl<'a> Both<'a> {
         requires { Leads self.old.upper upper × Leads self.old.lower lower }
         ensures { Goes self.old result.now self.new }
     {
-        match compare(upper.name, lower.name) {
+        let whole = Part {
+            start: 0,
+            length: upper.name.len(),
+        };
+        match compare_part(upper.name, whole, lower.name) {
             Ordering::Less => take(&mut self.upper, upper),
             Ordering::Equal => {
                 self.lower = lower.rest;

@@ -124,13 +124,13 @@ module _ (s : Stack) {place : ℕ} {d : DirectoryDelta} (g : RecordIs s.img.now 
       let change = normal_directory (λ name. shown_in (child name) s) k p a r in
       Put old at (layer_record.write (delta (record { fields = f; change = change }))) q new
 
-  module _ {old b₁ b₂ new : List ℕ} {at q₁ q₂ q₃ : ℕ} (h : Put old at (between s.img.now place d.added.start) q₁ b₁) where
+  module _ {old b₁ new : List ℕ} {at q₁ q₃ : ℕ} (h : Put old at (between s.img.now place d.added.start) q₁ b₁) where
     -- "else it drops added names that lead to the same inode below and removed names that lead to none"
     pub normal-directory : {all : Sources} → Leads s all → is_directory (shown_in type s) ≡ true
         → (x y : NameList) → IsListOf s.img.now U.Inode d.added x × IsListOf s.img.now U.Nothing d.removed y
-        → Put b₁ q₁ (kept_bytes x (leads_in all)) q₂ b₂ → Put b₂ q₂ (kept_bytes y (leads_in all)) q₃ new
+        → Put b₁ q₁ (kept_bytes x (leads_in all) ++ kept_bytes y (leads_in all)) q₃ new
         → Put old at (layer_record.write (normal_in s (entry_meant s.img.now (E.Node (D.Directory d))))) q₃ new
-    normal-directory {all} l e x y lists u v = go (shown_in type s) e
+    normal-directory {all} l e x y lists u = go (shown_in type s) e
       where
         same : leads_in all ≡ (λ name. shown_in (child name) s)
         same = fun_ext (λ name. l.leads name)
@@ -142,7 +142,7 @@ module _ (s : Stack) {place : ℕ} {d : DirectoryDelta} (g : RecordIs s.img.now 
             let change = normal_directory B (Some directory) p a r in
             Put old at (layer_record.write (delta (record { fields = f; change = change }))) q₃ new)
             same
-            (rw directory-bytes (put-append (rw front_bytes at h) (put-append (rw (kept-of x lists.0 _) at u) (rw (kept-of y lists.1 _) at v))))
+            (rw directory-bytes (put-append (rw front_bytes at h) (rw (kept-of x lists.0 _, kept-of y lists.1 _) at u)))
 
         go : (k : Option Kind) → is_directory k ≡ true → Normal old at q₃ new k
         go None e = cc
@@ -152,7 +152,7 @@ module _ (s : Stack) {place : ℕ} {d : DirectoryDelta} (g : RecordIs s.img.now 
         go (Some (special x)) e = cc
 
     -- "not existing or not a directory, removed is emptied"
-    pub normal-none : is_directory (shown_in type s) ≡ false → Put b₁ q₁ (between s.img.now d.added.start d.removed.start) q₂ b₂
+    pub normal-none : {b₂ : List ℕ} {q₂ : ℕ} → is_directory (shown_in type s) ≡ false → Put b₁ q₁ (between s.img.now d.added.start d.removed.start) q₂ b₂
         → Put b₂ q₂ (number_bytes 0) q₃ new
         → Put old at (layer_record.write (normal_in s (entry_meant s.img.now (E.Node (D.Directory d))))) q₃ new
     unfolding empty

@@ -13,7 +13,7 @@ use change::copy::put_between;
 use deltas::delta::{DirectoryDelta, EntryDelta, NodeDelta};
 use image::kind::FileType;
 use keep::below::names_in;
-use keep::keep::put_kept_list;
+use keep::keep::put_kept_lists;
 use lookup::child::lists_of;
 use passes::record::pass_record;
 use stack::file_type::Type;
@@ -38,10 +38,9 @@ fn put_normal_directory(
     let head = put_between(buf, at, img, place, added);
     let is_directory = decided(below, &Type) == Some(FileType::Directory);
     if is_directory {
-        let leading = names_in(below);
+        let mut leading = names_in(below);
         let (entries, names) = lists_of(img, directory);
-        let next = put_kept_list(buf, head, entries, &leading);
-        return put_kept_list(buf, next, names, &leading);
+        return put_kept_lists(buf, head, entries, names, &mut leading);
     }
     let next = put_between(buf, head, img, added, directory.removed.start);
     put_number(buf, next, 0)

@@ -14,7 +14,7 @@ use Rattle.deltas.specs.Deltas.{entry_meant, AttrListed, EntryListed, ReadsEntry
 use Rattle.deltas.specs.declared.delta.NodeDelta.TheVariants.{Directory, File, Symlink, Fifo, CharDevice, BlockDevice, Socket}
 use Rattle.deltas.specs.declared.delta.EntryDelta.{EntryDelta}
 use Rattle.deltas.specs.declared.delta.EntryDelta.TheVariants as E
-use Rattle.overlay.specs.Directories.{directory_of, Lives, LivesAt}
+use Rattle.overlay.specs.Directories.{bare_delta, directory_of, Lives, LivesAt}
 
 -- ---- the live record, read
 
@@ -27,6 +27,14 @@ lives-as img (E.Node (CharDevice d)) mid q a l = record { is = entry_meant img (
 lives-as img (E.Node (BlockDevice d)) mid q a l = record { is = entry_meant img (E.Node (BlockDevice d)); same = refl; stays = λ D. refl }
 lives-as img (E.Node (Socket d)) mid q a l = record { is = entry_meant img (E.Node (Socket d)); same = refl; stays = λ D. refl }
 lives-as img E.Tombstone mid q a l = record { is = tombstone; same = refl; stays = λ D. refl }
+
+-- with no record an empty directory delta
+pub lives-bare : {img : List ℕ} → LivesAt img None (Some bare_delta)
+lives-bare {img} = record { lives = go }
+  where
+    go : (o : Option Record) → Holds img layer_record.read None o → Lives img (Some bare_delta) o
+    go None h = record { becomes = λ D. refl; attributes = (0, tt); added = (0, tt); removed = (0, tt) }
+    go (Some a) h = absurd h
 
 module _ {img : List ℕ} {at : ℕ} {o : Result (EntryDelta × ℕ) Fault} (r : ReadsEntry img at o) where
   -- a record was read, as the place holds one

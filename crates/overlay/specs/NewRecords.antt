@@ -1,13 +1,9 @@
 -- Images with other live records: parts of the old image, and what is new.
-use Rattle.std.specs.Prelude.{Result, true, List, [], ◌∷◌, ◌++◌, ℕ, suc, length}
+use Rattle.std.specs.Prelude.{Result, true, cond, List, [], ◌∷◌, ◌++◌, ℕ, eqb, length}
 use Rattle.wire.specs.Number.{number_bytes}
 use Rattle.wire.specs.Put.{Put}
 use Rattle.image.specs.Masks.{maybe}
-use Rattle.image.specs.Meaning.{kind_number}
 use Rattle.image.specs.FieldLayout.{inode}
-use Rattle.image.specs.FileTypes.{kind_meant}
-use Rattle.image.specs.declared.kind.FileType.{FileType}
-use Rattle.image.specs.declared.kind.FileType.TheVariants as K
 use Rattle.writers.specs.Writes.{attr_bytes}
 use Rattle.records.specs.Records.{list_bytes as list_if}
 use Rattle.change.specs.Sections.{between}
@@ -31,21 +27,19 @@ use Rattle.overlay.specs.declared.record.Lead.{Lead}
 use Rattle.overlay.specs.declared.record.Lead.TheVariants as D
 use Rattle.overlay.specs.declared.write.NewLive.{NewLive}
 
--- what a delta of this kind has after its fields, if it changes nothing: of a directory no parent and two empty lists, else one 0
-abbrev pub bare_bytes : FileType → List ℕ
-bare_bytes K.Directory = number_bytes 0 ++ (number_bytes 0 ++ number_bytes 0)
-bare_bytes kind = number_bytes 0
+-- what a delta of this code has after its fields, if it changes nothing: of a directory no parent and two empty lists, else one 0
+abbrev pub bare_bytes : ℕ → List ℕ
+bare_bytes code = cond (eqb code 1) (number_bytes 0 ++ (number_bytes 0 ++ number_bytes 0)) (number_bytes 0)
 
--- what stands after the fields of a delta of this kind, in place of a record that ends at `after`
-abbrev pub change_bytes : List ℕ → FileType → NewChange → ℕ → List ℕ
-change_bytes img kind (C.Kept start) after = between img start after
-change_bytes img kind C.Bare after = bare_bytes kind
+-- what stands after the fields of a delta of this code, in place of a record that ends at `after`
+abbrev pub change_bytes : List ℕ → ℕ → NewChange → ℕ → List ℕ
+change_bytes img code (C.Kept start) after = between img start after
+change_bytes img code C.Bare after = bare_bytes code
 
 -- a delta with other fields, from its code on
 abbrev pub updated_bytes : List ℕ → List ℕ → Updated → ℕ → List ℕ
 updated_bytes img given n after =
-    number_bytes (suc (kind_number (kind_meant n.kind)))
-    ++ (attr_bytes n.attr_delta ++ (changes_anew img given n.new n.old ++ change_bytes img n.kind n.change after))
+    number_bytes n.code ++ (attr_bytes n.attr_delta ++ (changes_anew img given n.new n.old ++ change_bytes img n.code n.change after))
 
 -- what comes before the row of a record
 abbrev pub lead_bytes : List ℕ → Lead → ℕ → List ℕ

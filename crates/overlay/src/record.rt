@@ -34,10 +34,10 @@ pub enum NewChange {
     Bare,
 }
 
-// A delta of this kind. Its attribute changes are those of the delta given, merged with those in the image.
+// A delta of this code, of any number. Its attribute changes are those of the delta given, merged with those in the image.
 #[derive(Clone, Copy)]
 pub struct Updated {
-    pub kind: FileType,
+    pub code: u64,
     pub attr_delta: AttrDelta,
     pub new: Option<Part>,
     pub old: Option<Part>,
@@ -94,11 +94,11 @@ fn put_directory(buf: &mut [u8], at: usize, copied: Copied, directory: NewDirect
 }
 
 // A change by kind that changes nothing: of a directory no parent and two empty lists, else one 0.
-fn put_bare(buf: &mut [u8], at: usize, kind: FileType) -> usize
-    ensures { Put buf.old at (bare_bytes kind) result buf.new }
+fn put_bare(buf: &mut [u8], at: usize, code: u64) -> usize
+    ensures { Put buf.old at (bare_bytes code) result buf.new }
 {
-    match kind {
-        FileType::Directory => {
+    match code {
+        1 => {
             let added = put_number(buf, at, 0);
             let removed = put_number(buf, added, 0);
             put_number(buf, removed, 0)
@@ -111,15 +111,15 @@ fn put_new_change(
     buf: &mut [u8],
     at: usize,
     img: &[u8],
-    kind: FileType,
+    code: u64,
     change: NewChange,
     after: usize,
 ) -> usize
-    ensures { Put buf.old at (change_bytes img.now kind change after) result buf.new }
+    ensures { Put buf.old at (change_bytes img.now code change after) result buf.new }
 {
     match change {
         NewChange::Kept(start) => put_between(buf, at, img, start, after),
-        NewChange::Bare => put_bare(buf, at, kind),
+        NewChange::Bare => put_bare(buf, at, code),
     }
 }
 
@@ -128,10 +128,10 @@ fn put_updated(buf: &mut [u8], at: usize, copied: Copied, updated: Updated, afte
     ensures { Put buf.old at (updated_bytes copied.entry.img.now copied.entry.given.now updated after) result buf.new }
 {
     let img = copied.img;
-    let fields = put_number(buf, at, updated.kind.code());
+    let fields = put_number(buf, at, updated.code);
     let list = put_attr_delta(buf, fields, updated.attr_delta);
     let rest = put_changes(buf, list, img, copied.given, updated.new, updated.old);
-    put_new_change(buf, rest, img, updated.kind, updated.change, after)
+    put_new_change(buf, rest, img, updated.code, updated.change, after)
 }
 
 // What comes before the row of a record.

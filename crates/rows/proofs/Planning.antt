@@ -8,7 +8,7 @@ use Prim.Native.Nat.{ℕ, suc, ◌+◌, ◌≤◌, ◌<◌}
 use native.Mathlib.Omega.{arith}
 use native.Mathlib.Numerals.{add-one}
 use lib.Dec.{ltb}
-use lib.ListN.{length, take, drop, get_or, set, length-drop, length-map}
+use lib.ListN.{length, take, drop, get_or, set, length-append, length-drop, length-map}
 use lib.Seq.{drop-cons, take-suc, set_at, length-take-le}
 use borrow.Author.Tests.{ltb-false}
 use Rattle.stack.specs.declared.stack.Stack.{Stack}
@@ -71,6 +71,9 @@ module _ {s : Stack} (l : Listing) {all : Sources} (g : Gathers s l None all) (r
 module _ (new old : List Entry) where
   abbrev pub filled_to : ℕ → List Entry
   filled_to i = take i new ++ drop i old
+
+  pub filled-length : (i : ℕ) → i ≤ length new → length new ≤ length old → length (filled_to i) ≡ length old
+  filled-length i h k = omega (arith, length-append (take i new) (drop i old), length-take-le i new h, length-drop i old)
 
   filled-one : (i : ℕ) (e : Entry) → i < length new → length new ≤ length old → drop i new ≡ e ∷ drop (suc i) new → set (filled_to i) i e ≡ filled_to (i + 1)
   filled-one i e h k d =

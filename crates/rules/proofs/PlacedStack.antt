@@ -1,11 +1,12 @@
 -- The placed stack of an inode is the stack of its store, and a survey's places are its places.
-use Rattle.std.specs.Prelude.{None, Option, Some, Ok}
-use mathlib.Core.Path.{◌≡◌, refl, sym, ap, ◌∙◌}
+use Rattle.std.specs.Prelude.{None, Option, Some, Result, Ok, Err}
+use mathlib.Core.Path.{◌≡◌, refl, sym, ap, ◌∙◌, subst}
 use mathlib.Core.List.{List, [], ◌∷◌, ◌++◌, reverse, reverse_aux}
 use Prim.Native.Nat.{ℕ, ◌-◌, ◌≤◌}
 use native.Mathlib.Omega.{arith}
 use lib.ListN.{length, drop, length-drop}
 use lib.Seq.{take-length}
+use Rattle.wire.specs.declared.fault.Fault.{Fault}
 use Rattle.wire.specs.Parse.{Parsed, fault, got, never-got}
 use Rattle.wire.specs.Codec.{Codec, OneForm}
 use Rattle.wire.specs.Orders.{by_number}
@@ -14,7 +15,7 @@ use Rattle.image.specs.Meaning.{Node, Record, Layer, Batch, Store}
 use Rattle.image.specs.NodeLayout.{node, base}
 use Rattle.image.specs.RecordLayout.{layer_record, records}
 use Rattle.image.specs.StoreLayout.{batches, store}
-use Rattle.image.specs.Places.{passed, Ends, Holds}
+use Rattle.image.specs.Places.{passed, left_at, ends_in, Ends, Holds}
 use Rattle.survey.specs.Gathering.{deltas_of}
 use Rattle.survey.specs.Survey.{Surveys}
 use Rattle.image.specs.RoundTrip.{read_image}
@@ -28,23 +29,44 @@ use Rattle.image.proofs.OneForm.{base-one, batches-one, store-one, records-one}
 
 -- ---- places
 
-module _ {A : Type 0} {img : List ℕ} (c : Codec A) where
-  -- what is read at a place ends at the place after it
-  after-ends : OneForm c → (at : ℕ) → at ≤ length img → {a : A} {r : List ℕ} → c.read (drop at img) ≡ got a r → Ends img c.read at (Ok (length img - length r))
-  after-ends one at w {a} {r} e =
-      let s = suffix-rest c one (suffix-drop img at w) e in
-      record { same = rw (e, ← s.is); within = omega arith }
+-- the place after what was read, or the fault
+abbrev ended : {A : Type 0} → List ℕ → Parsed A → Result ℕ Fault
+ended img (fault f) = Err f
+ended img (got a r) = Ok (length img - length r)
 
-  -- and nowhere else
-  ends-after : {at q : ℕ} → Ends img c.read at (Ok q) → place_after img (c.read (drop at img)) ≡ Some q
-  ends-after {at} {q} h = go (c.read (drop at img)) h.same h.within
+after-place : {A : Type 0} (img : List ℕ) (o : Parsed A) {q : ℕ} → ended img o ≡ Ok q → place_after img o ≡ Some q
+after-place img (fault f) e = cc
+after-place img (got a r) e = cc
+
+module _ {A : Type 0} {img : List ℕ} (c : Codec A) where
+  -- what is read at a place ends at the place after it, or stops with the fault
+  after-ends : OneForm c → (at : ℕ) → at ≤ length img → Ends img c.read at (ended img (c.read (drop at img)))
+  after-ends one at w = go (c.read (drop at img)) refl
     where
-      go : (o : Parsed A) → passed o ≡ got tt (drop q img) → q ≤ length img → place_after img o ≡ Some q
-      go (fault f) e w = never-got e
-      go (got a r) e w =
+      go : (o : Parsed A) → c.read (drop at img) ≡ o → Ends img c.read at (ended img o)
+      go (fault f) e = record { same = rw e; within = tt }
+      go (got a r) e =
+          let s = suffix-rest c one (suffix-drop img at w) e in
+          record { same = rw (e, ← s.is); within = omega arith }
+
+  after-read : OneForm c → (at : ℕ) → at ≤ length img → {a : A} {r : List ℕ} → c.read (drop at img) ≡ got a r → Ends img c.read at (Ok (length img - length r))
+  after-read one at w e = subst (λ (o : Parsed A). Ends img c.read at (ended img o)) e (after-ends one at w)
+
+  -- and ends nowhere else
+  ends-after : {at : ℕ} (next : Result ℕ Fault) → Ends img c.read at next → ended img (c.read (drop at img)) ≡ next
+  ends-after {at} next h = go (c.read (drop at img)) next h.same h.within
+    where
+      go : (o : Parsed A) (next : Result ℕ Fault) → passed o ≡ left_at img next → ends_in img next → ended img o ≡ next
+      go (fault f) (Ok q) e w = never-got e
+      go (fault f) (Err g) e w = cc
+      go (got a r) (Err g) e w = never-got (sym e)
+      go (got a r) (Ok q) e w =
           let z : r ≡ drop q img = cc in
           let l : length img - length r ≡ q = rw z (omega (arith, length-drop q img)) in
-          ap Some l
+          ap Ok l
+
+  place-ends : {at q : ℕ} → Ends img c.read at (Ok q) → place_after img (c.read (drop at img)) ≡ Some q
+  place-ends {at} {q} h = after-place img (c.read (drop at img)) (ends-after (Ok q) h)
 
 -- The places that a survey found are the places of the definitions.
 pub survey-node : {img : List ℕ} {i : ℕ} {r : Survey} → Surveys img i r → r.stack.base ≡ node_place img i
@@ -53,7 +75,7 @@ survey-node w = w.node
 
 pub survey-records : {img : List ℕ} {i : ℕ} {r : Survey} → Surveys img i r → deltas_of r.stack ≡ record_places img i
 unfolding record_places
-survey-records {r = r} w = rw (ends-after base w.base, ends-after batches w.batches) w.deltas
+survey-records {r = r} w = rw (place-ends base w.base, place-ends batches w.batches) w.deltas
 
 -- An image that is read has a survey.
 module _ (img : List ℕ) (i : ℕ) {s : Store} (e : read_image img ≡ got s []) where
@@ -76,19 +98,19 @@ module _ (img : List ℕ) (i : ℕ) {s : Store} (e : read_image img ≡ got s []
   surveys : Surveys img i surveyed
   unfolding node_place record_places
   surveys =
-      let b = after-ends {img = img} base base-one 0 (omega arith) parts.at_base in
+      let b = after-read {img = img} base base-one 0 (omega arith) parts.at_base in
       let u : drop after_base img ≡ parts.r1 = sym (suffix-rest base base-one (suffix-drop img 0 (omega arith)) parts.at_base).is in
       let x : batches.read (drop after_base img) ≡ got s.batches parts.r2 = rw u parts.at_batches in
-      let l = after-ends {img = img} batches batches-one after_base b.within x in
+      let l = after-read {img = img} batches batches-one after_base b.within x in
       let v : drop after_batches img ≡ parts.r2 = sym (suffix-rest batches batches-one (suffix-drop img after_base b.within) x).is in
       let y : records.read (drop after_batches img) ≡ got s.live parts.r3 = rw v parts.at_live in
       record {
-        ends = after-ends {img = img} store store-one 0 (omega arith) (read_whole img e);
+        ends = after-read {img = img} store store-one 0 (omega arith) (read_whole img e);
         base = b;
         batches = l;
-        live = after-ends {img = img} records records-one after_batches l.within y;
+        live = after-read {img = img} records records-one after_batches l.within y;
         node = refl;
-        deltas = take-length (record_places img i) ∙ rw (ends-after base b, ends-after batches l) refl;
+        deltas = take-length (record_places img i) ∙ rw (place-ends base b, place-ends batches l) refl;
       }
 
 -- ---- what they hold

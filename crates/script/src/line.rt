@@ -34,9 +34,15 @@ pub fn parsed<T: FromStr<Err: Drop>>(word: &[u8]) -> Option<T> {
     str::from_utf8(word).ok()?.parse().ok()
 }
 
-// The decimal number that the word writes; u64::MAX if it writes none, or one too large.
+// The decimal number that the word writes, whatever its bytes: each counts as `digit` says, so that the empty word is 0; u64::MAX where it is larger.
 pub fn decimal(word: &[u8]) -> u64 {
-    parsed(word).unwrap_or(u64::MAX)
+    word.iter()
+        .try_fold(0u64, |value, letter| {
+            value
+                .checked_mul(10)?
+                .checked_add(digit(*letter) as u64 % 10)
+        })
+        .unwrap_or(u64::MAX)
 }
 
 // As many as the word says, or as there are to lend.
@@ -52,14 +58,17 @@ pub fn bytes<'a>(word: &[u8], out: &'a mut [u8]) -> &'a [u8]
 {
     let (pairs, _) = word.as_chunks::<2>();
     for ([high, low], byte) in pairs.iter().zip(out.iter_mut()) {
-        *byte = digit(*high) * 16 + digit(*low);
+        *byte = digit(*high) % 16 * 16 + digit(*low) % 16;
     }
     &out[..pairs.len().min(out.len())]
 }
 
-// What a hexadecimal digit stands for.
-fn digit(letter: u8) -> u8
-    ensures { result < 16 }
-{
-    char::from(letter).to_digit(16).unwrap_or(0) as u8
+// What a digit, or a capital letter from A on, stands for. By hand: lists may have any bytes, and each has a value here.
+fn digit(letter: u8) -> u8 {
+    match letter {
+        0..b'0' => 0,
+        b'0'..=b'9' => letter - b'0',
+        b':'..b'A' => 0,
+        b'A'..=255 => letter - b'A' + 10,
+    }
 }

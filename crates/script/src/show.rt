@@ -20,7 +20,12 @@ pub fn written(rt: &impl Print, length: usize, bytes: &[u8]) -> io::Result<()> {
 }
 
 pub fn refused(rt: &impl Print, refusal: Refusal) -> io::Result<()> {
-    print!(rt; " = {refusal}")
+    refused_number(rt, refusal.number())
+}
+
+// The same of a refusal's number, whatever it is.
+pub fn refused_number(rt: &impl Print, number: u32) -> io::Result<()> {
+    print!(rt; " = refused {number}")
 }
 
 // Bytes as a word of the list has them.

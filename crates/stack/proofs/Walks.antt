@@ -2,7 +2,7 @@
 -- Assumes nothing.
 use Rattle.nodes.specs.declared.node.Node.{Node}
 use Rattle.std.specs.Prelude.{Result, Ok, Err, IsOk, None, Option, Some}
-use mathlib.Core.Path.{◌≡◌, refl, sym, ap, ◌∙◌}
+use mathlib.Core.Path.{◌≡◌, refl, sym, ap, ◌∙◌, subst}
 use mathlib.Core.List.{List, [], ◌∷◌}
 use Prim.Native.Nat.{ℕ, zero, suc, ◌+◌, ◌-◌, ◌≤◌, ◌<◌}
 use native.Mathlib.Numerals.{add-one}
@@ -81,6 +81,10 @@ shown-base R img s o b = ap R.base (base-meant img s.base o b)
 pub record Walked {X : Type 0} (R : Read X) (s : Stack) (left : ℕ) : Type 0 where
   pub low : left ≤ s.places.count
   pub same : shown_in R s ≡ shown_lowest R s left
+
+-- a record is that of its place, however the place is counted
+pub record-at : (s : Stack) {i j : ℕ} {e : EntryDelta} → RecordIn s i e → i ≡ j → RecordIn s j e
+record-at s {e = e} g d = subst (λ (n : ℕ). RecordIn s n e) d g
 
 module _ {X : Type 0} {R : Read X} {s : Stack} where
   module _ {left : ℕ} (w : Walked R s left) where

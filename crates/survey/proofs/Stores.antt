@@ -29,10 +29,11 @@ use Rattle.image.specs.StoreLayout.{BatchRest, batch_rest, batch_of, batch_after
 use Rattle.image.specs.Places.{passed, Ends, rows_from, last_key, last_of}
 use Rattle.survey.specs.Gathering.{queue_rows, Pushed, GathersQueue}
 use Rattle.passes.specs.Held.{Finds}
-use Rattle.survey.specs.Survey.{tail_after, Surveyed, SurveyOf}
+use Rattle.survey.specs.Survey.{tail_after, Surveyed, stop_at, Stops, SurveyOf}
 use Rattle.survey.specs.Verdict.{verdict_of, Judges}
 use Rattle.survey.specs.declared.refusal.Refusal.{Refusal}
 use Rattle.survey.specs.declared.store.Survey.{Survey}
+use Rattle.survey.specs.declared.store.Stop.{Stop}
 use Rattle.survey.specs.declared.refusal.Refusal.TheVariants.{ImageTooLong, ImageBroken}
 use Rattle.passes.specs.declared.inode.Held.TheVariants as H
 use Rattle.survey.specs.declared.batch.InodeLayerStack.{InodeLayerStack}
@@ -184,54 +185,94 @@ module _ {img : List ℕ} where
 
 -- ---- the whole pass, and where it stops
 
-module _ {img : List ℕ} {sought : ℕ} {o : Result (Option ℕ × ℕ) Fault} (b : Finds img H.Node sought 0 o) where
+-- a fault as the stop after the sections that were passed
+abbrev pub stops_at : {A : Type 0} → Option ℕ → Option ℕ → Option ℕ → Result A Fault → Result A Stop
+stops_at b l t (Ok a) = Ok a
+stops_at b l t (Err f) = Err (stop_at f b l t)
+
+-- what was read is handed on, and its fault is in the stop
+read-on : {A : Type 0} (b l t : Option ℕ) (u : Result A Fault) {m : Result A Stop} {a : A} → m ≡ stops_at b l t u → m ≡ Ok a → u ≡ Ok a
+read-on b l t (Ok x) h d = cc
+read-on b l t (Err f) h d = absurd (let z = rw d at h in cc)
+
+read-off : {A : Type 0} (b l t : Option ℕ) (u : Result A Fault) {m : Result A Stop} {s : Stop} → m ≡ stops_at b l t u → m ≡ Err s
+    → (f : Fault) × (u ≡ Err f) × (s ≡ stop_at f b l t)
+read-off b l t (Ok x) h d = absurd (let z = rw d at h in cc)
+read-off b l t (Err f) h d = (f, refl, cc)
+
+stops : {img : List ℕ} (sought : ℕ) {s t : Stop} {r : Result Survey Stop} → r ≡ Err s → s ≡ t → Stops img t → SurveyOf img sought r
+stops sought e d h = rw (e, d) h
+
+-- each section is read as `m` has it, whose fault is made a stop
+module _ {img : List ℕ} {sought : ℕ} {o : Result (Option ℕ × ℕ) Fault} (b : Finds img H.Node sought 0 o)
+    {mb : Result (Option ℕ × ℕ) Stop} (ib : mb ≡ stops_at None None None o) where
   in-store : {r : Result ℕ Fault} → Ends img (base then seq batches rest_of).read 0 r → Ends img store.read 0 r
   unfolding store
   in-store h = ends-made store_of h
 
-  stopped : {f : Fault} {r : Result Survey Fault} → r ≡ Err f → Ends img store.read 0 (Err f) → SurveyOf img sought r
-  stopped e h = rw e h
+  pub surveys-base : {s : Stop} {r : Result Survey Stop} → mb ≡ Err s → r ≡ Err s → SurveyOf img sought r
+  surveys-base d e =
+      let x = read-off None None None o ib d in
+      let h = rw x.1 at b in
+      stops sought e x.2 (record { ends = in-store (ends-stop _ h.ends refl refl); base = h.ends; batches = refl; live = refl })
 
-  pub surveys-base : {f : Fault} {r : Result Survey Fault} → o ≡ Err f → r ≡ Err f → SurveyOf img sought r
-  surveys-base d e = let h = rw d at b in stopped e (in-store (ends-stop _ h.ends refl refl))
+  module _ {place : Option ℕ} {c1 : ℕ} (db : mb ≡ Ok (place, c1)) {u : Result (Batches × ℕ) Fault} (g : GathersQueue img sought c1 place u)
+      {mg : Result (Batches × ℕ) Stop} (ig : mg ≡ stops_at (Some c1) None None u) where
+    base-read : Finds img H.Node sought 0 (Ok (place, c1))
+    base-read = rw (read-on None None None o ib db) at b
 
-  module _ {place : Option ℕ} {c1 : ℕ} (d : o ≡ Ok (place, c1)) {u : Result (Batches × ℕ) Fault} (g : GathersQueue img sought c1 place u) where
     after-base : {r : Result ℕ Fault} → Ends img (seq batches rest_of).read c1 r → Ends img store.read 0 r
-    after-base k = let h = rw d at b in in-store (ends-then (seq batches rest_of).read (λ a b. (a, b)) h.ends refl k)
+    after-base k = in-store (ends-then (seq batches rest_of).read (λ a b. (a, b)) base-read.ends refl k)
 
-    pub surveys-queue : {f : Fault} {r : Result Survey Fault} → u ≡ Err f → r ≡ Err f → SurveyOf img sought r
-    surveys-queue z e = let h = rw z at g in stopped e (after-base (ends-stop _ (ends-batches h.ends) refl refl))
+    pub surveys-queue : {s : Stop} {r : Result Survey Stop} → mg ≡ Err s → r ≡ Err s → SurveyOf img sought r
+    surveys-queue z e =
+        let x = read-off (Some c1) None None u ig z in
+        let h = rw x.1 at g in
+        let q = ends-batches h.ends in
+        stops sought e x.2 (record { ends = after-base (ends-stop _ q refl refl); base = base-read.ends; batches = q; live = refl })
 
-    module _ {queue : Batches} {c2 : ℕ} (z : u ≡ Ok (queue, c2)) {v : Result (Option ℕ × ℕ) Fault} (l : Finds img H.Record sought c2 v) where
+    module _ {queue : Batches} {c2 : ℕ} (dg : mg ≡ Ok (queue, c2)) {v : Result (Option ℕ × ℕ) Fault} (l : Finds img H.Record sought c2 v)
+        {ml : Result (Option ℕ × ℕ) Stop} (il : ml ≡ stops_at (Some c1) (Some c2) None v) where
+      queue-read : GathersQueue img sought c1 place (Ok (queue, c2))
+      queue-read = rw (read-on (Some c1) None None u ig dg) at g
+
       after-queue : {r : Result ℕ Fault} → Ends img (records then tail_after queue.last).read c2 r → Ends img store.read 0 r
-      after-queue k = let h = rw z at g in after-base (ends-queue h.ends h.gathered.last k)
+      after-queue k = after-base (ends-queue queue-read.ends queue-read.gathered.last k)
 
-      pub surveys-live : {f : Fault} {r : Result Survey Fault} → v ≡ Err f → r ≡ Err f → SurveyOf img sought r
-      surveys-live y e = let h = rw y at l in stopped e (after-queue (ends-stop _ h.ends refl refl))
+      pub surveys-live : {s : Stop} {r : Result Survey Stop} → ml ≡ Err s → r ≡ Err s → SurveyOf img sought r
+      surveys-live y e =
+          let x = read-off (Some c1) (Some c2) None v il y in
+          let h = rw x.1 at l in
+          let q = ends-batches queue-read.ends in
+          stops sought e x.2 (record { ends = after-queue (ends-stop _ h.ends refl refl); base = base-read.ends; batches = q; live = h.ends })
 
-      module _ {top : Option ℕ} {c3 : ℕ} (y : v ≡ Ok (top, c3)) {w : Result ℕ Fault} (t : Ends img (tail_after queue.last).read c3 w) where
+      module _ {top : Option ℕ} {c3 : ℕ} (dl : ml ≡ Ok (top, c3)) {w : Result ℕ Fault} (t : Ends img (tail_after queue.last).read c3 w)
+          {mt : Result ℕ Stop} (it : mt ≡ stops_at (Some c1) (Some c2) (Some c3) w) where
+        live-read : Finds img H.Record sought c2 (Ok (top, c3))
+        live-read = rw (read-on (Some c1) (Some c2) None v il dl) at l
+
         after-live : {r : Result ℕ Fault} → w ≡ r → Ends img store.read 0 r
-        after-live x = let h = rw y at l in after-queue (ends-then (tail_after queue.last).read (λ a b. (a, b)) h.ends refl (rw x at t))
+        after-live x = after-queue (ends-then (tail_after queue.last).read (λ a b. (a, b)) live-read.ends refl (rw x at t))
 
-        pub surveys-tail : {f : Fault} {r : Result Survey Fault} → w ≡ Err f → r ≡ Err f → SurveyOf img sought r
-        surveys-tail x e = stopped e (after-live x)
+        pub surveys-tail : {s : Stop} {r : Result Survey Stop} → mt ≡ Err s → r ≡ Err s → SurveyOf img sought r
+        surveys-tail z e =
+            let x = read-off (Some c1) (Some c2) (Some c3) w it z in
+            let q = ends-batches queue-read.ends in
+            stops sought e x.2 (record { ends = after-live x.1; base = base-read.ends; batches = q; live = live-read.ends })
 
-        pub surveys-all : {c4 : ℕ} {stack : InodeLayerStack} → w ≡ Ok c4 → Pushed queue.stack top stack
+        pub surveys-all : {c4 : ℕ} {stack : InodeLayerStack} → mt ≡ Ok c4 → Pushed queue.stack top stack
             → Surveyed img sought (record { stack = stack; sections = record { batches = c1; live = c2; tail = c3 }; end = c4 })
-        surveys-all x p =
-            let hb = rw d at b in
-            let hg = rw z at g in
-            let hl = rw y at l in
+        surveys-all z p =
             record {
               surveys = record {
-                ends = after-live x;
-                base = hb.ends;
-                batches = ends-batches hg.ends;
-                live = hl.ends;
-                node = (p.base ∙ hg.gathered.base_kept) ∙ hb.found;
-                deltas = rw (p.places, hg.gathered.places, hl.found);
+                ends = after-live (read-on (Some c1) (Some c2) (Some c3) w it z);
+                base = base-read.ends;
+                batches = ends-batches queue-read.ends;
+                live = live-read.ends;
+                node = (p.base ∙ queue-read.gathered.base_kept) ∙ base-read.found;
+                deltas = rw (p.places, queue-read.gathered.places, live-read.found);
               };
-              few = omega (arith, p.few, hg.gathered.few);
+              few = omega (arith, p.few, queue-read.gathered.few);
               wide = p.wide;
             }
 
@@ -261,9 +302,9 @@ module _ {img : List ℕ} (short : length img ≤ 65536) where
       let r = ends-fault w in
       rw (le-ltb 65536 (length img) short, r)
 
-  module _ {sought : ℕ} {o : Result Survey Fault} (h : SurveyOf img sought o) where
-    pub judged-broken : {f : Fault} {r : Result Survey Refusal} → o ≡ Err f → r ≡ Err ImageBroken → Judges img sought r
-    judged-broken d e = rw e (record { verdict = is-broken (rw d at h); survey = tt })
+  module _ {sought : ℕ} {o : Result Survey Stop} (h : SurveyOf img sought o) where
+    pub judged-broken : {s : Stop} {r : Result Survey Refusal} → o ≡ Err s → r ≡ Err ImageBroken → Judges img sought r
+    judged-broken d e = rw e (record { verdict = is-broken (let g = rw d at h in g.ends); survey = tt })
 
     module _ {s : Survey} (d : o ≡ Ok s) where
       pub judged-longer : s.end < length img → Judges img sought (Err ImageBroken)

@@ -1,6 +1,7 @@
 -- What the one pass over an image answers: whether it is by the layout, where its sections stand, and where one inode's records are.
 use Rattle.std.specs.Prelude.{◌≡◌, refl, List, ◌++◌, ℕ, ◌≤◌, length, Option}
-use Rattle.std.specs.Prelude.{Result, Ok, Err}
+use Rattle.std.specs.Prelude.{Result, Ok, Err, None, MatchOption}
+use Rattle.std.specs.Option.{ok_or}
 use Rattle.wire.specs.declared.fault.Fault.{Fault}
 use Rattle.wire.specs.Codec.{Codec}
 use Rattle.wire.specs.Combinators.{◌then◌, only}
@@ -14,6 +15,7 @@ use Rattle.image.specs.StoreLayout.{batches, store}
 use Rattle.image.specs.Places.{Ends, place_in}
 use Rattle.survey.specs.Gathering.{list_if, deltas_of, queue_places}
 use Rattle.survey.specs.declared.store.Survey.{Survey}
+use Rattle.survey.specs.declared.store.Stop.{Stop}
 
 -- what follows live: next id, judged by the last id of the queue, staged bytes, staged operations, request
 abbrev pub tail_after : Option ℕ → Codec (ℕ × (ℕ × (ℕ × ℕ)))
@@ -34,7 +36,18 @@ pub record Surveyed (img : List ℕ) (sought : ℕ) (r : Survey) : Type 0 where
   pub few : r.stack.count ≤ 17
   pub wide : length r.stack.deltas ≡ 17
 
--- the survey, or the fault at which the store stops
-abbrev pub SurveyOf : List ℕ → ℕ → Result Survey Fault → Type 0
+-- the stop at a fault, after sections that end at these places
+abbrev pub stop_at : Fault → Option ℕ → Option ℕ → Option ℕ → Stop
+stop_at f batches live tail = record { fault = f; batches = batches; live = live; tail = tail }
+
+-- the store stops; each section before that ends where the next begins, one stops with the same fault, and none after that one has a place
+pub record Stops (img : List ℕ) (s : Stop) : Type 0 where
+  pub ends : Ends img store.read 0 (Err s.fault)
+  pub base : Ends img base.read 0 (ok_or s.batches s.fault)
+  pub batches : MatchOption s.batches (s.live ≡ None) (λ p. Ends img batches.read p (ok_or s.live s.fault))
+  pub live : MatchOption s.live (s.tail ≡ None) (λ p. Ends img records.read p (ok_or s.tail s.fault))
+
+-- the survey, or where the store stops
+abbrev pub SurveyOf : List ℕ → ℕ → Result Survey Stop → Type 0
 SurveyOf img sought (Ok r) = Surveyed img sought r
-SurveyOf img sought (Err f) = Ends img store.read 0 (Err f)
+SurveyOf img sought (Err s) = Stops img s

@@ -1,5 +1,5 @@
 -- Document 01: "Always first: 1, image over 65,536 bytes; 2, image not by the layout."
-use Rattle.std.specs.Prelude.{◌≡◌, cond, List, ℕ, ltb, length, Result, Ok, Err, Some, None, IfOk, Option}
+use Rattle.std.specs.Prelude.{◌≡◌, cond, List, ℕ, ltb, length, Result, Ok, Err, Some, None, IfOk, Option, ◌++◌, codes, decimal}
 use Rattle.std.specs.Result.{result_err}
 use Rattle.wire.specs.Parse.{Parsed, fault, got}
 use Rattle.image.specs.Meaning.{Store}
@@ -22,6 +22,10 @@ number_of D.NoBatch = 8
 number_of D.WrongBatch = 9
 number_of D.CountFull = 10
 number_of D.NoLayer = 11
+
+-- what the programs print of a refusal: its number in decimal after the word
+abbrev pub refusal_text : Refusal → List ℕ
+refusal_text r = codes "refused " ++ decimal (number_of r)
 
 -- a result with its refusal as a number
 abbrev pub numbered : {A : Type 0} → Result A Refusal → Result A ℕ

@@ -1,6 +1,6 @@
 // Why a call is refused.
-ghost use Rattle.std.specs.Prelude.{◌≡◌};
-ghost use Rattle.survey.specs.Verdict.{number_of};
+ghost use Rattle.std.specs.Prelude.{◌≡◌, Some};
+ghost use Rattle.survey.specs.Verdict.{number_of, refusal_text};
 ghost use Rattle.survey.specs.declared.refusal.Refusal.TheVariants.{ImageBroken};
 
 use std::fmt;
@@ -43,6 +43,8 @@ impl Refusal {
 
 // As the programs write a refusal.
 impl fmt::Display for Refusal {
+    ghost output = { λ refusal. Some (refusal_text refusal) };
+
     fn fmt<W: fmt::Write>(&self, f: &mut fmt::Formatter<W>) -> fmt::Result {
         write!(f, "refused {}", self.number())
     }

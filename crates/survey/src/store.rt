@@ -1,8 +1,9 @@
 // The one pass over an image.
 ghost use Rattle.std.specs.Prelude.{◌≡◌};
 ghost use Rattle.image.specs.Places.{Ends};
-ghost use Rattle.survey.specs.Survey.{tail_after, SurveyOf};
+ghost use Rattle.survey.specs.Survey.{tail_after, stop_at, SurveyOf};
 ghost use Rattle.survey.specs.Verdict.{Judges};
+ghost use Rattle.survey.specs.declared.refusal.Refusal.TheVariants.{ImageBroken};
 
 use crate::batch::{InodeLayerStack, gather_queue, pushed};
 use crate::reason::LAST_REASON;
@@ -31,15 +32,50 @@ pub struct Survey {
     pub end: usize,
 }
 
-// Judges the store at the start of the image, field by field, and gathers the places of one inode's node and records on the way.
+// Why a store stops, and where each section before that ends: the base at `batches`, the batches at `live`, live at `tail`.
+#[derive(Clone, Copy)]
+pub struct Stop {
+    pub fault: Fault,
+    pub batches: Option<usize>,
+    pub live: Option<usize>,
+    pub tail: Option<usize>,
+}
+
+// The stop at a fault, after sections that end at these places.
+fn stopped(fault: Fault, batches: Option<usize>, live: Option<usize>, tail: Option<usize>) -> Stop
+    ensures { result ≡ stop_at fault batches live tail }
+{
+    Stop {
+        fault,
+        batches,
+        live,
+        tail,
+    }
+}
+
+// A store that stops is broken, wherever that is.
+impl From<Stop> for Refusal {
+    ghost from_gives = { λ _ r. r ≡ ImageBroken };
+
+    fn from(stop: Stop) -> Refusal {
+        Refusal::from(stop.fault)
+    }
+}
+
+// Judges the store at the start of the image, field by field, and gathers the places of one inode's node and records on the way. Of a store that
+// stops it says where, and where the sections before that end.
 #[tactic(auto, using(crate::proofs::Stores::surveys))]
-pub fn survey_store(img: &[u8], sought: u64) -> Result<Survey, Fault>
+pub fn survey_store(img: &[u8], sought: u64) -> Result<Survey, Stop>
     ensures { SurveyOf img.now sought result }
 {
-    let (node, batches) = find_inode(img, 0, Held::Node, sought)?;
-    let (queue, live) = gather_queue(img, batches, sought, node)?;
-    let (record, tail) = find_inode(img, live, Held::Record, sought)?;
-    let end = pass_tail(img, tail, queue.last)?;
+    let node = find_inode(img, 0, Held::Node, sought);
+    let (node, batches) = node.map_err(|fault| stopped(fault, None, None, None))?;
+    let queue = gather_queue(img, batches, sought, node);
+    let (queue, live) = queue.map_err(|fault| stopped(fault, Some(batches), None, None))?;
+    let record = find_inode(img, live, Held::Record, sought);
+    let (record, tail) = record.map_err(|fault| stopped(fault, Some(batches), Some(live), None))?;
+    let end = pass_tail(img, tail, queue.last);
+    let end = end.map_err(|fault| stopped(fault, Some(batches), Some(live), Some(tail)))?;
     let stack = pushed(queue.stack, record);
     let sections = Sections {
         batches,

@@ -1,6 +1,6 @@
 -- Document 01: "Child: from the top. Tombstone: none. Directory delta: removed name, none; else added name, its inode; else go on below. Other
 -- kind: none. Last, a base directory's entries." Here each layer by itself.
-use Rattle.std.specs.Prelude.{◌≡◌, ℕ, zero, suc, ◌+◌, ◌≤◌, ◌<◌, None, Option, Some}
+use Rattle.std.specs.Prelude.{◌≡◌, List, ℕ, zero, suc, ◌+◌, ◌≤◌, ◌<◌, None, Option, Some}
 use Rattle.wire.specs.Orders.{by_bytes}
 use Rattle.wire.specs.Maps.{get}
 use Rattle.image.specs.Meaning.{Text}
@@ -9,8 +9,8 @@ use Rattle.rules.specs.Reads.{child}
 use Rattle.nodes.specs.Listed.{list_at}
 use Rattle.lookup.specs.Children.{has}
 use Rattle.lookup.specs.declared.list.NameList.{NameList}
-use Rattle.stack.specs.InStack.{shown_lowest, shown_in}
-use Rattle.stack.specs.declared.stack.Stack.{Stack}
+use Rattle.stack.specs.Stacks.{shown_under, shown}
+use Rattle.survey.specs.declared.batch.InodeLayerStack.{InodeLayerStack}
 use Rattle.trace.specs.declared.said.Said.{Said}
 use Rattle.trace.specs.declared.said.Said.TheVariants.{Nothing, NoChild, Child}
 
@@ -45,20 +45,20 @@ abbrev pub SaysList : Option NameList → Text → Said → Type 0
 SaysList None name r = r ≡ NoChild
 SaysList (Some l) name r = r ≡ entry_says (get by_bytes name (list_at l.img.now U.Inode l.place))
 
-module _ (s : Stack) (name : Text) where
+module _ (img : List ℕ) (s : InodeLayerStack) (name : Text) where
   -- what layer n says
   abbrev pub says_at : ℕ → Said
-  says_at n = said_of (shown_lowest (has name) s n)
+  says_at n = said_of (shown_under (has name) img s n)
 
   -- the answer is what record i says; and so the lookup in it and what is below it
   pub record SaysRecord (i : ℕ) (r : Said) : Type 0 where
     pub itself : r ≡ says_at (i + 1)
-    pub looked : shown_lowest (child name) s (i + 1) ≡ over r (shown_lowest (child name) s i)
+    pub looked : shown_under (child name) img s (i + 1) ≡ over r (shown_under (child name) img s i)
 
   -- the same of the base, below which is nothing
   pub record SaysBase (r : Said) : Type 0 where
     pub itself : r ≡ says_at 0
-    pub looked : shown_lowest (child name) s 0 ≡ over r None
+    pub looked : shown_under (child name) img s 0 ≡ over r None
 
   -- below the base there is nothing to ask
   abbrev pub SpeaksAt : ℕ → Type 0
@@ -67,7 +67,7 @@ module _ (s : Stack) (name : Text) where
 
   -- the layers above say nothing, so that the lookup is that of the layer and what is below it; and the layer says something, or is the base
   pub record Decides (layer : ℕ) : Type 0 where
-    pub low : layer ≤ s.places.count
-    pub above : (n : ℕ) → layer < n → n ≤ s.places.count → says_at n ≡ Nothing
+    pub low : layer ≤ s.count
+    pub above : (n : ℕ) → layer < n → n ≤ s.count → says_at n ≡ Nothing
     pub speaks : SpeaksAt layer
-    pub looked : shown_in (child name) s ≡ shown_lowest (child name) s layer
+    pub looked : shown (child name) img s ≡ shown_under (child name) img s layer

@@ -37,23 +37,24 @@ fn said_in(entries: Option<NameList>, name: &[u8]) -> Said
 }
 
 // What one record of a stack says. Records are counted from the lowest.
+#[tactic(auto, using(crate::proofs::Saying::says))]
 pub fn says_at(stack: Stack, i: usize, name: &[u8]) -> Said
     requires { i < stack.places.count }
-    ensures { SaysRecord stack.entry name.now i result }
+    ensures { SaysRecord stack.entry.img.now stack.entry.places name.now i result }
 {
     said_in(entries_at(stack, i + 1, name), name)
 }
 
 // What the base says. Not one function with `says_at`: below the base there is nothing to ask, which its contract says.
 pub fn base_says(stack: Stack, name: &[u8]) -> Said
-    ensures { SaysBase stack.entry name.now result }
+    ensures { SaysBase stack.entry.img.now stack.entry.places name.now result }
 {
     said_in(base_entries(stack), name)
 }
 
 // The layer that decides: the topmost that says something. Layers are numbered as in `child_in`: record i is i + 1, the base 0.
 pub fn deciding(stack: Stack, name: &[u8]) -> usize
-    ensures { Decides stack.entry name.now result }
+    ensures { Decides stack.entry.img.now stack.entry.places name.now result }
 {
     for i in (0..stack.places.count).rev() {
         if !matches!(says_at(stack, i, name), Said::Nothing) {

@@ -170,15 +170,15 @@ module _ {img : List ℕ} {at : ℕ} (o : Result (Option FileType × ℕ) Fault)
               ∙ sym (delta-bytes (merge_fields (fields_meant given a) d.fields) d.change)
 
         -- "Update merges into a live delta, field by field and attribute by attribute"
-        pub onto-delta : {a m : AttrDelta} → m ≡ attr_over a b
-            → Onto img at a (N.Updated (record { kind = k; attr_delta = m; new = a.xattrs; old = b.xattrs; change = C.Kept end }))
-        onto-delta {a} {m} q = record {
+        pub onto-delta : {a m : AttrDelta} {v : ℕ} → v ≡ suc (kind_number (kind_meant k)) → m ≡ attr_over a b
+            → Onto img at a (N.Updated (record { code = v; attr_delta = m; new = a.xattrs; old = b.xattrs; change = C.Kept end }))
+        onto-delta {a} {m} {v} i q = record {
           stays = λ after w.
               let c : code_meant (Some k) ≡ None = rw y at (ap (λ (y : Option Kind × ℕ). y.0) (same_Ok (rw z at (dead-code w)))) in
               absurd (let n : ◌≡◌ {A = ℕ} 0 1 = cc in omega arith);
           merges = λ after d f w. record {
-            new = record { kind = k; attr_delta = m; new = a.xattrs; old = b.xattrs; change = C.Kept end };
+            new = record { code = v; attr_delta = m; new = a.xattrs; old = b.xattrs; change = C.Kept end };
             is = refl;
-            writes = λ given last h. rw q (merged-bytes after d f w a given last h);
+            writes = λ given last h. rw (i, q) (merged-bytes after d f w a given last h);
           };
         }

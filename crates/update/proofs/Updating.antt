@@ -72,7 +72,7 @@ only-given : (img given : List ℕ) (x : Option Part) (end : ℕ) → ListedIf g
 only-given img given (Some p) end h = list_written U.Change h
 only-given img given None end h = refl
 
-bare-bytes : (k : FileType) → bare_bytes k ≡ changed (bare_change (kind_meant k))
+bare-bytes : (k : FileType) → bare_bytes (suc (kind_number (kind_meant k))) ≡ changed (bare_change (kind_meant k))
 unfolding empty number_bytes groups
 bare-bytes K.Directory = refl
 bare-bytes K.RegularFile = refl

@@ -1,8 +1,9 @@
 -- Update. Document 01: "Update merges into a live delta, field by field and attribute by attribute; does nothing on a live tombstone; with no
 -- live record makes a delta of the type below, device 0, or does nothing if none exists."
-use Rattle.std.specs.Prelude.{◌≡◌, List, ℕ, Option, Some, None}
-use Rattle.image.specs.Meaning.{Delta, Record, Store, tombstone, delta}
+use Rattle.std.specs.Prelude.{◌≡◌, List, ℕ, suc, Option, Some, None}
+use Rattle.image.specs.Meaning.{Delta, Record, Store, tombstone, delta, kind_number}
 use Rattle.image.specs.Fits.{FitsRecord}
+use Rattle.image.specs.FileTypes.{kind_meant}
 use Rattle.image.specs.declared.kind.FileType.{FileType}
 use Rattle.image.specs.declared.name.Under.TheVariants as U
 use Rattle.image.specs.RecordLayout.{layer_record}
@@ -30,7 +31,7 @@ WholeFields given (Some a) = (given_fields given ≡ Some (fields_meant given a)
 WholeFields given None = given_fields given ≡ None
 
 abbrev pub new_delta : FileType → AttrDelta → Updated
-new_delta kind a = record { kind = kind; attr_delta = a; new = a.xattrs; old = None; change = K.Bare }
+new_delta kind a = record { code = suc (kind_number (kind_meant kind)); attr_delta = a; new = a.xattrs; old = None; change = K.Bare }
 
 -- the fields of a delta, with those given over them
 abbrev pub merged_delta : List ℕ → AttrDelta → Delta → Record

@@ -67,7 +67,7 @@ fn onto_live(img: &[u8], at: usize, fields: AttrDelta) -> NewRecord
         return NewRecord::Tombstone;
     };
     NewRecord::Updated(Updated {
-        kind,
+        code: kind.code(),
         attr_delta: attr_over(fields, below),
         new: fields.xattrs,
         old: below.xattrs,
@@ -80,7 +80,7 @@ fn new_delta(kind: FileType, fields: AttrDelta) -> Updated
     ensures { result ≡ new_delta kind fields }
 {
     Updated {
-        kind,
+        code: kind.code(),
         attr_delta: fields,
         new: fields.xattrs,
         old: None,

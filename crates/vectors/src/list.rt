@@ -1,5 +1,6 @@
 // Rows lent to a listing, and read afterwards.
-use rows::listing::Entry;
+use crate::lend::lend;
+use rows::listing::{Entry, list_directory, list_xattrs};
 use script::line::{decimal, room, word};
 use script::show;
 use std::io;
@@ -9,12 +10,36 @@ use wire::part::Part;
 // The rows lent, and how many of them a listing filled.
 #[derive(Clone, Copy)]
 pub struct Listed {
-    rows: [Entry; 16],
-    count: usize,
+    pub rows: [Entry; 16],
+    pub count: usize,
+}
+
+// The names of a directory, each with its inode.
+pub fn list(rt: &impl Print, line: &[u8]) -> io::Result<()> {
+    lend(
+        rt,
+        word(line, 3),
+        |img| filled(img, line, list_directory),
+        entries,
+    )
+}
+
+pub fn entries(rt: &impl Print, img: &[u8], listed: Listed) -> io::Result<()> {
+    show_rows(rt, img, listed, |rt, row| print!(rt; ":{}", row.inode))
+}
+
+// The names of the extended attributes.
+pub fn names(rt: &impl Print, line: &[u8]) -> io::Result<()> {
+    lend(
+        rt,
+        word(line, 3),
+        |img| filled(img, line, list_xattrs),
+        |rt, img, listed| show_rows(rt, img, listed, |_, _| Ok(())),
+    )
 }
 
 // Lends rows to a listing, as many as the line says.
-pub fn list<L: Fn(&[u8], u64, &mut [Entry]) -> Result<Option<usize>, Refusal>>(
+fn filled<L: Fn(&[u8], u64, &mut [Entry]) -> Result<Option<usize>, Refusal>>(
     img: &[u8],
     line: &[u8],
     listing: L,
@@ -33,16 +58,6 @@ pub fn list<L: Fn(&[u8], u64, &mut [Entry]) -> Result<Option<usize>, Refusal>>(
         return Ok(None);
     };
     Ok(Some(Listed { rows, count }))
-}
-
-// The names of a directory, each with its inode.
-pub fn entries(rt: &impl Print, img: &[u8], listed: Listed) -> io::Result<()> {
-    show_rows(rt, img, listed, |rt, row| print!(rt; ":{}", row.inode))
-}
-
-// The names of the extended attributes.
-pub fn names(rt: &impl Print, img: &[u8], listed: Listed) -> io::Result<()> {
-    show_rows(rt, img, listed, |_, _| Ok(()))
 }
 
 // How many rows were filled, then each: its name, and what is shown behind it.

@@ -261,7 +261,7 @@ module _ {w : Walk} {best : Option ℕ} (l : Least w best) where
   pub step-none : best ≡ None → {r : Option Step} → r ≡ None → Steps w r w
   step-none e d =
       let none : least_key by_number (sources_of w) ≡ None = l.is ∙ e in
-      rw d (record { image_is = refl; stacks = pile-end by_number laying (sources_of w) none; taken = tt; ended = λ z. none })
+      rw d (record { image_is = refl; stacks = pile-end by_number laying (sources_of w) none; taken = tt; ended = λ z. none; rests = λ z. refl })
 
   pub step_taken : {k : ℕ} → best ≡ Some k → {r : Step} {after : Walk} → after.img.now ≡ w.img.now → Taken w.img.now w.runs k r after.runs
       → Steps w (Some r) after
@@ -278,4 +278,5 @@ module _ {w : Walk} {best : Option ℕ} (l : Least w best) where
           rest = rw s.inode left;
         };
         ended = λ z. absurd (let y : ◌≡◌ {A = ℕ} 0 1 = cc in omega arith);
+        rests = λ z. absurd (let y : ◌≡◌ {A = ℕ} 0 1 = cc in omega arith);
       }

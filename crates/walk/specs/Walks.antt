@@ -99,9 +99,10 @@ abbrev pub stacks_if : Option Step → List (ℕ × Pieces) → List (ℕ × Pie
 stacks_if (Some s) l = (s.inode, pieces_in s.stack) ∷ l
 stacks_if None l = []
 
--- the least inode goes first, with its stack, and then the rest
+-- the least inode goes first, with its stack, and then the rest; where none is left, the walk stays as it is
 pub record Steps (w : Walk) (r : Option Step) (rest : Walk) : Type 0 where
   pub image_is : rest.img.now ≡ w.img.now
   pub stacks : stacks_left w ≡ stacks_if r (stacks_left rest)
   pub taken : IfSome r (λ s. Passes w s rest)
   pub ended : r ≡ None → least_key by_number (sources_of w) ≡ None
+  pub rests : r ≡ None → sources_of rest ≡ sources_of w

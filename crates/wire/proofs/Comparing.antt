@@ -32,3 +32,7 @@ same-order [] [] = refl
 same-order [] (y ∷ b) = refl
 same-order (x ∷ a) [] = refl
 same-order (x ∷ a) (y ∷ b) = same-then (nat_cmp x y) (slice_cmp nat_cmp a b) ∙ (λ i. and_then (same-one x y i) (same-order a b i))
+
+-- the same, where the second text is written in another way
+pub compared : {r : Ordering} (a : List ℕ) {b c : List ℕ} → r ≡ slice_cmp nat_cmp a c → c ≡ b → r ≡ by_bytes.cmp a b
+compared a {b} d e = d ∙ rw e (same-order a b)

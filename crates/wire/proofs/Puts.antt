@@ -2,14 +2,13 @@
 -- Assumes nothing.
 use mathlib.Core.Path.{◌≡◌, refl, sym, ap, ◌∙◌}
 use mathlib.Core.Logic.{⊎_elim}
-use mathlib.Core.List.{List, [], ◌∷◌, ◌++◌, append_assoc}
-use borrow.Rule.Slice.PartMut.{put_mid, Post-is}
+use mathlib.Core.List.{List, [], ◌∷◌, ◌++◌}
 use Prim.Native.Nat.{ℕ, suc, ◌+◌, ◌-◌, ◌/◌, ◌%◌, ◌≤◌, ◌<◌, min}
 use native.Mathlib.Nat.{add-zero, suc-add, add-suc}
 use native.Mathlib.Numerals.{add-one}
 use native.Mathlib.Omega.{arith}
-use lib.ListN.{length, take, drop, set, length-append, length-set, take-append-drop}
-use lib.Seq.{sets, sets-eq, length-sets, length-take-le, set_out, take_all}
+use lib.ListN.{length, take, drop, get_or, set, length-append, length-set, take-append-drop}
+use lib.Seq.{sets, sets-eq, length-sets, length-take-le, set_out, take_all, take-suc}
 use Rattle.wire.specs.Put.{Put}
 use Rattle.wire.specs.Number.{edge, number_bytes, lt-or-ge, number_small, number-big}
 
@@ -57,6 +56,14 @@ pub copied_none : {l : List ℕ} {at : ℕ} {xs : List ℕ} → Copied l at xs l
 copied_none = record { is = refl; within = omega arith }
 
 module _ {l : List ℕ} {at : ℕ} {xs m : List ℕ} {i : ℕ} (c : Copied l at xs m i) where
+  pub copied_more : i < length xs → Copied l at xs (set m (at + i) (get_or xs i 0)) (i + 1)
+  copied_more h = record {
+    is =
+        rw (add-one i, take-suc xs i 0 h, ← (sets-append (take i xs) (get_or xs i 0 ∷ []) l at), length-take-le i xs c.within)
+        (ap (λ (k : List ℕ). set k (at + i) (get_or xs i 0)) c.is);
+    within = omega arith;
+  }
+
   -- what is not copied is outside
   sets-rest : min (length xs) (length l - at) ≤ i → sets l at (take i xs) ≡ sets l at xs
   sets-rest h = ⊎_elim outside (λ k. ap (sets l at) (take_all i xs k)) (lt-or-ge i (length xs))
@@ -72,11 +79,6 @@ module _ {l : List ℕ} {at : ℕ} {xs m : List ℕ} {i : ℕ} (c : Copied l at 
   pub copied_all : {count next : ℕ} → count ≡ min (length xs) (length l - at) → count ≤ i → next ≡ min (at + length xs) edge → length l < edge → Put l at xs
       next m
   copied_all e h n short = record { to = n; is = c.is ∙ sets-rest (omega arith); short = short }
-
--- the buffer with ys in the place of as many bytes
-pub mid-sets : (l ys : List ℕ) (at : ℕ) {n : ℕ} → length ys ≡ n → at + n ≤ length l → put_mid at (at + n - at) l ys ≡ sets l at ys
-mid-sets l ys at {n} e h =
-    rw (Post-is at (at + n) l (omega arith)) (sym (append_assoc (take at l) ys (drop (at + n) l)) ∙ sym (rw e at (sets-eq ys l at (omega (arith, e)))))
 
 -- ---- the loop that writes a number: from i on, ys is left to write into l, and then xs stands from `at` on in what was l₀
 pub record Left (l₀ : List ℕ) (at : ℕ) (xs l : List ℕ) (i : ℕ) (ys : List ℕ) : Type 0 where

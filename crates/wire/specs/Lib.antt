@@ -14,3 +14,4 @@ pub mod Lists
 pub mod Reading
 pub mod Compared
 pub mod Put
+pub mod Printed

@@ -1,4 +1,6 @@
 // Why a reader stops.
+ghost use Rattle.std.specs.Prelude.{Some};
+ghost use Rattle.wire.specs.Printed.{fault_text};
 
 use std::fmt;
 
@@ -10,6 +12,8 @@ pub enum Fault {
 }
 
 impl fmt::Display for Fault {
+    ghost output = { λ fault. Some (fault_text fault) };
+
     fn fmt<W: fmt::Write>(&self, f: &mut fmt::Formatter<W>) -> fmt::Result {
         f.write_str(match self {
             Fault::Ended => "ended",

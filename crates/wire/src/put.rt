@@ -45,7 +45,10 @@ pub fn put_bytes(buf: &mut [u8], at: usize, bytes: &[u8]) -> usize
 {
     if at < buf.len() {
         let count = bytes.len().min(buf.len() - at);
-        buf[at..at + count].copy_from_slice(&bytes[..count]);
+        // byte by byte: `copy_from_slice` calls memmove, which a controller would have to bring
+        for i in 0..count {
+            buf[at + i] = bytes[i];
+        }
     }
     advance(at, bytes.len())
 }

@@ -1,10 +1,11 @@
 // Times: seconds since 1970, which may be negative, then nanoseconds.
-ghost use Rattle.std.specs.Prelude.{◌≡◌};
+ghost use Rattle.std.specs.Prelude.{◌≡◌, Some};
 ghost use Rattle.std.specs.Int.{w64};
 ghost use Rattle.std.proofs.Common.{SFits};
 ghost use Rattle.wire.specs.Time.{zigzag as zigzagged, unzigzag as unzigzagged, time as timeCodec};
 ghost use Rattle.wire.specs.Reading.{Reads};
 ghost use Rattle.wire.specs.Put.{Put};
+ghost use Rattle.wire.specs.Printed.{time_text};
 
 use crate::fault::Fault;
 use crate::number::{put_number, read_number};
@@ -29,6 +30,8 @@ impl Time {
 
 // Seconds and nanoseconds, a point between them.
 impl fmt::Display for Time {
+    ghost output = { λ time. Some (time_text time) };
+
     fn fmt<W: fmt::Write>(&self, f: &mut fmt::Formatter<W>) -> fmt::Result {
         write!(f, "{}.{}", self.seconds, self.nanos)
     }

@@ -44,9 +44,33 @@ pub fn read_batch_head(img: &[u8], at: usize) -> Result<(BatchHead, usize), Faul
 pub fn put_batch_head(buf: &mut [u8], at: usize, head: BatchHead) -> usize
     ensures { Put buf.old at (batch_head.write (head_meant head)) result buf.new }
 {
-    let named = put_number(buf, at, head.id);
-    let sized = put_number(buf, named, head.bytes as u64);
-    let counted = put_number(buf, sized, head.operations as u64);
-    let reasoned = put_number(buf, counted, head.reason.number());
-    put_time(buf, reasoned, head.committed)
+    let reason = head.reason.number();
+    put_head_numbers(
+        buf,
+        at,
+        head.id,
+        head.bytes,
+        head.operations,
+        reason,
+        head.committed,
+    )
+}
+
+// Writes a head of these numbers at `at`, the reason of any number, and answers the place after it.
+pub fn put_head_numbers(
+    buf: &mut [u8],
+    at: usize,
+    id: u64,
+    bytes: u32,
+    operations: u32,
+    reason: u64,
+    committed: Time,
+) -> usize
+    ensures { Put buf.old at (batch_head.write (id, (bytes, (operations, (reason, committed))))) result buf.new }
+{
+    let named = put_number(buf, at, id);
+    let sized = put_number(buf, named, bytes as u64);
+    let counted = put_number(buf, sized, operations as u64);
+    let reasoned = put_number(buf, counted, reason);
+    put_time(buf, reasoned, committed)
 }

@@ -56,10 +56,25 @@ pub fn read_tail(img: &[u8], at: usize) -> Result<(Tail, usize), Fault>
 pub fn put_tail(buf: &mut [u8], at: usize, tail: Tail) -> usize
     ensures { Put buf.old at (tailCodec.write (tail_meant tail)) result buf.new }
 {
-    let named = put_number(buf, at, tail.next_id);
-    let sized = put_number(buf, named, tail.bytes as u64);
-    let counted = put_number(buf, sized, tail.operations as u64);
-    put_number(buf, counted, request_number(tail.request))
+    let request = request_number(tail.request);
+    put_tail_numbers(buf, at, tail.next_id, tail.bytes, tail.operations, request)
+}
+
+// Writes a tail of these numbers at `at`, the request of any number, and answers the place after it.
+pub fn put_tail_numbers(
+    buf: &mut [u8],
+    at: usize,
+    next_id: u64,
+    bytes: u32,
+    operations: u32,
+    request: u64,
+) -> usize
+    ensures { Put buf.old at (tailCodec.write (next_id, (bytes, (operations, request)))) result buf.new }
+{
+    let named = put_number(buf, at, next_id);
+    let sized = put_number(buf, named, bytes as u64);
+    let counted = put_number(buf, sized, operations as u64);
+    put_number(buf, counted, request)
 }
 
 // The number of a request in the image; 0 for none.

@@ -12,10 +12,11 @@ pub loop-start-init : goal.loop-start-init
 loop-start-init g c =
     let l = listed g c in
     record {
-      image = l.image;
+      image_is = l.image;
       sort = l.sort;
       keeping =
-          keeping-start c.args.sources.now _ c.peekable-names.ensures.source c.peekable-names.ensures.peeked (omega arith) (omega arith) refl;
+          keeping-start (record { first = c.args.first; rest = c.args.sources.now }) (record { image = refl; rises = c.requires.rises })
+          (omega arith) (omega arith) refl;
     }
 
 pub more-kept-requires : goal.more-kept-requires

@@ -7,7 +7,7 @@ pub returns-then-is_directory : goal.returns-then-is_directory
 returns-then-is_directory c =
     normal-directory c.args.below c.requires c.put_between-head.ensures c.names_in-leading.ensures
     (ap is_directory (sym c.decided.ensures) ∙ sym (c.eq-is_directory.ensures ∙ directory-eq c.decided.result) ∙ c.if-is_directory.true)
-    _ _ c.lists_of.ensures c.put_kept_list-next.ensures c.put_kept_list.ensures
+    _ _ c.lists_of.ensures c.put_kept_lists.ensures
 
 pub returns : goal.returns
 returns c =

@@ -1,9 +1,6 @@
 use Prim.Native.Nat.{◌+◌}
-use Rattle.trace.proofs.Saying.{entries-inodes, record-says}
+use Rattle.trace.proofs.Saying.{entries-inodes}
 use Rattle.trace.proofs.said.says_at.Goals as goal
 
 pub said_in-requires : goal.said_in-requires
 said_in-requires c = entries-inodes c.args.stack c.args.name.now (c.args.i + 1) _ c.entries_at.ensures
-
-pub returns : goal.returns
-returns c = record-says c.args.stack c.args.name.now c.args.i c.entries_at.result c.entries_at.ensures c.said_in.ensures

@@ -1,3 +1,5 @@
+use mathlib.Core.Path.{◌∙◌}
+use native.Mathlib.Numerals.{add-one}
 use Rattle.std.proofs.Common.{rules}
 use Rattle.update.proofs.Onto.{onto-unread, onto-dead, onto-nowhere, onto-delta}
 use Rattle.update.proofs.update.onto_live.Goals as goal
@@ -16,4 +18,4 @@ returns-in_default-read_attr_delta c =
 pub returns : goal.returns
 returns c =
     let i = c.in-Ok-Some-default in
-    onto-delta _ c.read_code.ensures i.is c.read_attr_delta.ensures i.field-0-0-is c.in-Ok.is c.attr_over.ensures
+    onto-delta _ c.read_code.ensures i.is c.read_attr_delta.ensures i.field-0-0-is c.in-Ok.is (c.code.ensures.0 ∙ add-one _) c.attr_over.ensures

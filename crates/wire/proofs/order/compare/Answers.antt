@@ -1,6 +1,6 @@
-use mathlib.Core.Path.{◌∙◌}
-use Rattle.wire.proofs.Comparing.{same-order}
+use lib.Seq.{take-length}
+use Rattle.wire.proofs.Comparing.{compared}
 use Rattle.wire.proofs.order.compare.Goals as goal
 
 pub returns : goal.returns
-returns c = c.cmp.ensures ∙ same-order c.args.a.now c.args.b.now
+returns c = compared c.args.a.now c.cmp.ensures (cc (take-length c.args.b.now))

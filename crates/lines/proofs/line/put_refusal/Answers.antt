@@ -1,5 +1,0 @@
-use Rattle.wire.proofs.Puts.{put-append}
-use Rattle.lines.proofs.line.put_refusal.Goals as goal
-
-pub returns : goal.returns
-returns c = rw (← c.number.ensures) (put-append c.put_bytes-next.ensures c.put_field.ensures)

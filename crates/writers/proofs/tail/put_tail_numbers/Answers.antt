@@ -1,0 +1,6 @@
+use Rattle.wire.proofs.Puts.{put-append}
+use Rattle.writers.proofs.tail.put_tail_numbers.Goals as goal
+
+pub returns : goal.returns
+returns c =
+    put-append c.put_number-named.ensures (put-append c.put_number-sized.ensures (put-append c.put_number-counted.ensures c.put_number.ensures))
