@@ -302,9 +302,13 @@ module _ {img : List ℕ} (short : length img ≤ 65536) where
       let r = ends-fault w in
       rw (le-ltb 65536 (length img) short, r)
 
+  -- by the fault alone, whatever is known of the places before it
+  pub judged-broken : {sought : ℕ} {f : Fault} {r : Result Survey Refusal} → Ends img store.read 0 (Err f) → r ≡ Err ImageBroken → Judges img sought r
+  judged-broken w e = rw e (record { verdict = is-broken w; survey = tt })
+
   module _ {sought : ℕ} {o : Result Survey Stop} (h : SurveyOf img sought o) where
-    pub judged-broken : {s : Stop} {r : Result Survey Refusal} → o ≡ Err s → r ≡ Err ImageBroken → Judges img sought r
-    judged-broken d e = rw e (record { verdict = is-broken (let g = rw d at h in g.ends); survey = tt })
+    pub judged-stopped : {s : Stop} {r : Result Survey Refusal} → o ≡ Err s → r ≡ Err ImageBroken → Judges img sought r
+    judged-stopped d e = let g = rw d at h in judged-broken g.ends e
 
     module _ {s : Survey} (d : o ≡ Ok s) where
       pub judged-longer : s.end < length img → Judges img sought (Err ImageBroken)
